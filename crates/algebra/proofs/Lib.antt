@@ -1,1 +1,13 @@
-
+pub mod Ring
+pub mod Identities
+pub mod Series
+pub mod Bounds
+pub mod Value
+pub mod Field
+pub mod Degree
+pub mod Roots
+pub mod Division
+pub mod Euclid
+pub mod Ideal
+pub mod LowestTerms
+pub mod Reduced

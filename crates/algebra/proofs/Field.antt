@@ -1,0 +1,54 @@
+-- Fields with decidable equality: neither the numbers nor the polynomials have zero divisors.
+use mathlib.Core.Path.{_≡_, sym, _∙_, ap, fun-ext}
+use mathlib.Core.Logic.{_≢_, _⊎_, inl, inr}
+use Prim.Native.Nat.{ℕ, zero, suc}
+use Rattle.algebra.proofs.Ring.{Ring, mul-comm, mul-assoc, one-mul, null-add, mul-null, null-mul}
+use Rattle.algebra.proofs.Series.{Series, tail, nullS, mulS, mulS-zero, mulS-suc, mulS-suc-right}
+use Rattle.algebra.proofs.Bounds.{Below, below-tail, below-zero}
+
+pub record Field : Type 1 where
+  pub ring : Ring
+  pub dec : Discrete (ring .Carrier)
+  pub inv : ring .Carrier → ring .Carrier
+  pub inv-mul : (a : ring .Carrier) → a ≢ ring .null → ring .mul a (inv a) ≡ ring .one
+  pub one≢null : ring .one ≢ ring .null
+
+module _ (F : Field) where
+  open Field F using (ring as R, dec, inv, inv-mul)
+  open Ring R using (Carrier, add as _⊕_, mul as _⊗_, null)
+
+  infixl 60 _⊕_
+  infixl 70 _⊗_
+  pub cancel : (a b : Carrier) → a ≢ null → a ⊗ b ≡ null → b ≡ null
+  cancel a b n e =
+      sym (one-mul R b) ∙ ap (λ x. x ⊗ b) (sym (inv-mul a n) ∙ mul-comm R _ _) ∙ mul-assoc R _ _ _ ∙ ap (λ x. inv a ⊗ x) e ∙ mul-null R _
+
+  pub nonzero-mul : (a b : Carrier) → a ≢ null → b ≢ null → a ⊗ b ≢ null
+  nonzero-mul a b na nb e = nb (cancel a b na e)
+
+  -- a series whose constant term is not null is no zero divisor
+  cancel-unit : (f g : Series R) → f zero ≢ null → ((k : ℕ) → mulS R f g k ≡ null) → (k : ℕ) → g k ≡ null
+  cancel-unit f g n e zero = cancel (f zero) (g zero) n (sym (mulS-zero R f g) ∙ e zero)
+  cancel-unit f g n e (suc k) =
+      cancel-unit f (tail R g) n
+      (λ j. let z : g zero ≡ null = cancel (f zero) (g zero) n (sym (mulS-zero R f g) ∙ e zero) in
+      let s : f (suc j) ⊗ g zero ⊕ mulS R f (tail R g) j ≡ null = sym (mulS-suc-right R f g j) ∙ e (suc j) in
+      simp (z, mul-null, null-add) at s)
+      k
+
+  pub no-zero-divisors : (n : ℕ) (f g : Series R) → Below R f n → mulS R f g ≡ nullS R → (f ≡ nullS R) ⊎ (g ≡ nullS R)
+  unfolding nullS
+  no-zero-divisors zero f g b e = inl (below-zero R f b)
+  no-zero-divisors (suc n) f g b e = by-constant (dec (f zero) null) (no-zero-divisors n (tail R f) g (below-tail R f n b))
+    where
+      at : (k : ℕ) → mulS R f g k ≡ null
+      at k = ap (λ h. h k) e
+
+      extend : f zero ≡ null → (tail R f ≡ nullS R) ⊎ (g ≡ nullS R) → (f ≡ nullS R) ⊎ (g ≡ nullS R)
+      extend z (inl t) = inl (fun-ext (elim [ zero ↦ z | suc k ↦ ap (λ h. h k) t ]))
+      extend z (inr t) = inr t
+
+      by-constant : Dec (f zero ≡ null) → (mulS R (tail R f) g ≡ nullS R → (tail R f ≡ nullS R) ⊎ (g ≡ nullS R))
+          → (f ≡ nullS R) ⊎ (g ≡ nullS R)
+      by-constant (yes z) ih = extend z (ih (fun-ext (λ k. simp (mulS-suc, z, null-mul, null-add) at (at (suc k)))))
+      by-constant (no nz) ih = inr (fun-ext (cancel-unit f g nz at))

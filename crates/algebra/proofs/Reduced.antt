@@ -1,0 +1,56 @@
+-- Reduced families: that every common divisor is a constant says the same as that 1 is in the ideal.
+use mathlib.Core.Path.{_≡_, sym, _∙_, ap, subst}
+use mathlib.Core.Logic.{_≢_}
+use Prim.Native.Nat.{ℕ, zero, _<_}
+use Rattle.algebra.proofs.Ring.{Ring, mul-comm}
+use Rattle.algebra.proofs.Series.{Series, nullS, constS, mulS, constS-mul, null-mulS, seriesRing}
+use Rattle.algebra.proofs.Bounds.{Below, below-zero, drop-top, Polynomial, polynomial-add, polynomial-mul, polynomial-constS}
+use Rattle.algebra.proofs.Field.{Field}
+use Rattle.algebra.proofs.Degree.{unit-constant}
+use Rattle.algebra.proofs.Ideal.{at, last, plus, times, swap, InIdeal, FamilyDivisor, family-divisor}
+use Rattle.algebra.proofs.LowestTerms.{constant-of, scale-constS}
+
+module _ (F : Field) where
+  open Field F using (ring as R, inv, inv-mul)
+  open Ring R using (Carrier, null, one)
+
+  -- paper 01's reduced, less that g is monic: no polynomial of positive degree divides g and every f i, i < n
+  abbrev pub Reduced : (n : ℕ) (f : ℕ → Series R) (g : Series R) → Type 0
+  Reduced n f g = (d : Series R) → Polynomial R d → (f' : ℕ → Series R) (g' : Series R)
+      → ((i : ℕ) → i < n → Polynomial R (f' i)) → Polynomial R g'
+      → ((i : ℕ) → i < n → f i ≡ mulS R d (f' i)) → g ≡ mulS R d g' → Below R d 1
+
+  member-polynomial : (n : ℕ) (f : ℕ → Series R) (g : Series R) → ((i : ℕ) → i < n → Polynomial R (f i)) → Polynomial R g
+      → {x : Series R} → InIdeal F n f g x → Polynomial R x
+  member-polynomial n f g pf pg (at i l) = pf i l
+  member-polynomial n f g pf pg last = pg
+  member-polynomial n f g pf pg (plus a b) = polynomial-add R _ _ (member-polynomial n f g pf pg a) (member-polynomial n f g pf pg b)
+  member-polynomial n f g pf pg (times c ok a) = polynomial-mul R _ _ ok (member-polynomial n f g pf pg a)
+
+  pub reduced-of-ideal : (n : ℕ) (f : ℕ → Series R) (g : Series R) → InIdeal F n f g (constS R one) → Reduced n f g
+  reduced-of-ideal n f g I d pd f' g' pf' pg' ef eg =
+      let t = swap (seriesRing R) (Polynomial R) d n f g f' g' ef eg I in
+      unit-constant F d (t .0) pd (member-polynomial n f' g' pf' pg' (t .1)) (sym (t .2))
+
+  pub ideal-of-reduced : (n : ℕ) (f : ℕ → Series R) (g : Series R) → ((i : ℕ) → i < n → Polynomial R (f i)) → Polynomial R g
+      → g ≢ nullS R → Reduced n f g → InIdeal F n f g (constS R one)
+  ideal-of-reduced n f g pf pg nz red =
+      subst (InIdeal F n f g) to-one (times (constS R (inv k)) (polynomial-constS R (inv k)) (D .member))
+    where
+      D : FamilyDivisor F n f g
+      D = family-divisor F n f g pf pg
+
+      constant : Below R (D .divisor) 1
+      constant = red (D .divisor) (D .divisor-polynomial) (D .f') (D .g') (D .f'-polynomial) (D .g'-polynomial) (D .f-multiple) (D .g-multiple)
+
+      k : Carrier
+      k = D .divisor zero
+
+      k-nonnull : k ≢ null
+      k-nonnull z =
+          nz (D .g-multiple ∙ ap (λ x. mulS R x (D .g')) (below-zero R (D .divisor) (drop-top R (D .divisor) zero constant z)) ∙ null-mulS R (D .g'))
+
+      to-one : mulS R (constS R (inv k)) (D .divisor) ≡ constS R one
+      to-one =
+          ap (mulS R (constS R (inv k))) (constant-of F (D .divisor) constant) ∙ constS-mul R (inv k) _
+          ∙ scale-constS F (inv k) k ∙ ap (constS R) (mul-comm R _ _ ∙ inv-mul k k-nonnull)

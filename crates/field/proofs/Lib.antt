@@ -1,0 +1,5 @@
+pub mod Remainders
+pub mod Primality
+pub mod Moduli
+pub mod Reciprocals
+mod Table

@@ -1,0 +1,120 @@
+-- What the reciprocal is: the one residue whose product with a leaves 1.
+use Prim.Native.Nat.{ℕ, zero, suc, _+_, _*_, _-_, _/_, _%_, _≤_, _<_}
+use mathlib.Core.Path.{_≡_, refl, sym, ap, _∙_, fun-ext}
+use mathlib.Core.Bool.{Bool, true, false, cond}
+use native.Mathlib.Nat.{add-mul-mod-self-right, div-add-mod', mod-eq-of-lt, mod-lt, mul-le-mul-left, one-mul}
+use native.Mathlib.Decide.{decLe}
+use native.Mathlib.Omega.{arith}
+use lib.Dec.{eqb, eqb→eq}
+use borrow.Author.Tests.{eq-eqb, ne-eqb, eqb-true}
+use Rattle.field.specs.Residues.{lastBelow, reciprocalOf}
+use Rattle.field.proofs.Remainders.{mod-mul, mul-mod}
+use Rattle.field.proofs.Primality.{IsPrime}
+
+-- a test that r passes, and no other number below m, finds r
+last-is : (test : ℕ → Bool) (m r : ℕ) → test r ≡ true → ((s : ℕ) → s < m → test s ≡ true → s ≡ r)
+    → (n : ℕ) → n ≤ m → r < n → r ≡ lastBelow test n
+unfolding lastBelow
+last-is test m r pass only zero u l = absurd (omega arith)
+last-is test m r pass only (suc n) u l = go (test n) refl (last-is test m r pass only n (omega arith))
+  where
+    go : (b : Bool) → test n ≡ b → (r < n → r ≡ lastBelow test n) → r ≡ cond b n (lastBelow test n)
+    go true e lower = sym (only n (omega arith) e)
+    go false e lower = lower (below (decLe (suc r) n))
+      where
+        below : Dec (suc r ≤ n) → r < n
+        below (yes h) = h
+        below (no h) =
+            let same : r ≡ n = omega arith in
+            let clash : true ≡ false = sym pass ∙ ap test same ∙ e in
+            let z : _≡_ {A = ℕ} 0 1 = cc in omega arith
+
+-- a test that nothing passes finds 0
+last-none : (test : ℕ → Bool) → ((s : ℕ) → test s ≡ false) → (n : ℕ) → 0 ≡ lastBelow test n
+unfolding lastBelow
+last-none test fail zero = refl
+last-none test fail (suc n) = rw (fail n) (last-none test fail n)
+
+last-below : (test : ℕ → Bool) (m : ℕ) → 0 < m → (n : ℕ) → n ≤ m → lastBelow test n < m
+unfolding lastBelow
+last-below test m h zero l = h
+last-below test m h (suc n) l = go (test n) (last-below test m h n (omega arith))
+  where
+    go : (b : Bool) → lastBelow test n < m → cond b n (lastBelow test n) < m
+    go true lower = l
+    go false lower = lower
+
+module _ (p a : ℕ) where
+  -- s = s r a = r s a = r
+  at-most-one : (r s : ℕ) → r < p → s < p → r * a % p ≡ 1 → s * a % p ≡ 1 → s ≡ r
+  at-most-one r s lr ls er es =
+      let swap : s * (r * a) ≡ r * (s * a) = omega arith in
+      sym (leaves s ls (r * a) er) ∙ ap (λ x. x % p) swap ∙ leaves r lr (s * a) es
+    where
+      leaves : (x : ℕ) → x < p → (y : ℕ) → y % p ≡ 1 → x * y % p ≡ x
+      leaves x l y e =
+          let unit : x * 1 ≡ x = omega arith in
+          sym (mul-mod x y p) ∙ ap (λ t. (x * t) % p) e ∙ ap (λ t. t % p) unit ∙ mod-eq-of-lt l
+
+  pub reciprocal-is : (r : ℕ) → r < p → r * a % p ≡ 1 → r ≡ reciprocalOf p a
+  unfolding reciprocalOf
+  reciprocal-is r l e =
+      last-is (λ s. eqb (s * a % p) 1) p r (eq-eqb _ _ e) (λ s ls t. at-most-one r s l ls e (eqb-true _ _ t)) p (omega arith) l
+
+  pub reciprocal-of-zero : 1 < p → a % p ≡ 0 → 0 ≡ reciprocalOf p a
+  unfolding reciprocalOf
+  reciprocal-of-zero two z = last-none (λ s. eqb (s * a % p) 1) (λ s. ne-eqb _ _ (λ e. not-one s e)) p
+    where
+      not-one : (s : ℕ) → s * a % p ≡ 1 → ⊥
+      not-one s e =
+          let zeros : s * 0 ≡ 0 = omega arith in
+          let none : s * a % p ≡ 0 = sym (mul-mod s a p) ∙ ap (λ t. (s * t) % p) z ∙ ap (λ t. t % p) zeros ∙ mod-eq-of-lt (omega arith) in
+          omega arith
+
+  pub reciprocal-of-residue : reciprocalOf p (a % p) ≡ reciprocalOf p a
+  unfolding reciprocalOf
+  reciprocal-of-residue = ap (λ test. lastBelow test p) (fun-ext (λ r. ap (λ t. eqb t 1) (mul-mod r a p)))
+
+-- One step of the computation: p = (p / b) b + p % b, so p - p / b times b leaves p % b.
+next-factor : (p b : ℕ) → 1 < b → b * (p - p / b) % p ≡ p % b % p
+next-factor p zero l = absurd (omega arith)
+next-factor p (suc b) l = ap (λ x. x % p) (expand (p / suc b) (p % suc b) (div-add-mod' p (suc b))) ∙ add-mul-mod-self-right _ _ _
+  where
+    expand : (q r : ℕ) → q * suc b + r ≡ p → suc b * (p - q) ≡ r + b * p
+    expand q r e =
+        let small : q * 1 ≤ q * suc b = mul-le-mul-left q (omega arith) in
+        let whole : suc b * ((p - q) + q) ≡ suc b * p = ap (λ x. suc b * x) (omega arith) in
+        omega arith
+
+pub reciprocal-step : (p a acc b : ℕ) → 1 < b → b < p → acc * a % p ≡ b → acc * (p - p / b) % p * a % p ≡ p % b
+reciprocal-step p a acc b l u e =
+    let f = p - p / b in
+    let regroup : acc * f * a ≡ acc * a * f = omega arith in
+    let small = mod-lt p {m = b} (omega arith) in
+    mod-mul (acc * f) a p ∙ ap (λ x. x % p) regroup ∙ sym (mod-mul (acc * a) f p) ∙ ap (λ x. x * f % p) e ∙ next-factor p b l
+    ∙ mod-eq-of-lt (omega arith)
+
+module _ (p : ℕ) (P : IsPrime p) (a : ℕ) where
+  -- the computation, by a count of steps that is large enough
+  found : (n b acc : ℕ) → 0 < b → b ≤ n → b < p → acc * a % p ≡ b → (r : ℕ) × (r * a % p ≡ 1)
+  found zero b acc l u s e = absurd (omega arith)
+  found (suc n) b acc l u s e = go (decLe b 1) (found n (p % b) (acc * (p - p / b) % p))
+    where
+      go : Dec (b ≤ 1) → (0 < p % b → p % b ≤ n → p % b < p → acc * (p - p / b) % p * a % p ≡ p % b → (r : ℕ) × (r * a % p ≡ 1))
+          → (r : ℕ) × (r * a % p ≡ 1)
+      go (yes h) next = (acc, e ∙ (let one : b ≡ 1 = omega arith in one))
+      go (no h) next =
+          let falls = mod-lt p {m = b} l in
+          next (P .free b (omega arith) s) (omega arith) (omega arith) (reciprocal-step p a acc b (omega arith) s e)
+
+  pub reciprocal-below : reciprocalOf p a < p
+  unfolding reciprocalOf
+  reciprocal-below = last-below _ p (let t = P .two in omega arith) p (omega arith)
+
+  pub reciprocal-inverts : 0 < a % p → reciprocalOf p a * a % p ≡ 1
+  reciprocal-inverts l =
+      let start : 1 * a % p ≡ a % p = ap (λ x. x % p) (one-mul a) in
+      let small = mod-lt a {m = p} (let t = P .two in omega arith) in
+      let f = found (a % p) (a % p) 1 l (omega arith) small start in
+      let e : f .0 % p * a % p ≡ 1 = mod-mul (f .0) a p ∙ f .1 in
+      ap (λ r. r * a % p) (sym (reciprocal-is p a (f .0 % p) (mod-lt _ (let t = P .two in omega arith)) e)) ∙ e

@@ -1,0 +1,51 @@
+-- The table's rule is computed once over all entries: entry 0 is 0, and each other entry is below 257 and leaves 1 times its index.
+use Prim.Native.Nat.{ℕ, zero, suc, _*_, _%_, _<_}
+use mathlib.Core.Path.{_≡_, refl}
+use mathlib.Core.Bool.{Bool, true, false, cond}
+use mathlib.Core.List.{List}
+use lib.ListN.{getD, length}
+use lib.Dec.{T, eqb, eqb→eq, lit<, ltb, ltb→lt}
+use native.Mathlib.Nat.{zero-mod}
+use borrow.Author.Needs.{needs}
+use borrow.Author.Tests.{lt-ltb}
+use Rattle.field.specs.Residues.{reciprocalOf}
+use Rattle.field.proofs.Reciprocals.{reciprocal-is, reciprocal-of-zero}
+use Rattle.field.proofs.Table.{at-entry, both, every, both-first, both-second}
+use Rattle.field.proofs.table257.reciprocal_of.Statement.{statement}
+use Rattle.field.proofs.table257.reciprocal_of.Tie as tie
+
+-- the rule at one entry
+inverts : ℕ → ℕ → Bool
+inverts zero x = eqb x 0
+inverts (suc k) x = both (ltb x 257) (eqb (x * suc k % 257) 1)
+
+inverts-is : (k x : ℕ) → T (inverts k x) → x ≡ reciprocalOf 257 k
+unfolding inverts
+inverts-is zero x t = rw (eqb→eq x 0 t) (reciprocal-of-zero 257 0 (lit< tt) (zero-mod 257))
+inverts-is (suc k) x t =
+    let below = ltb x 257 in
+    let leaves-one = eqb (x * suc k % 257) 1 in
+    reciprocal-is 257 (suc k) x (ltb→lt x 257 (both-first below leaves-one t)) (eqb→eq (x * suc k % 257) 1 (both-second below leaves-one t))
+
+-- The rule as an equation that asks nothing, so that it fits whatever list the code holds: where the test passes at every entry, the
+-- entry at k is the reciprocal of k.
+checked-entry : (xs : List ℕ) (k : ℕ) → getD xs k 0 ≡ cond (every inverts 0 xs) (cond (ltb k (length xs)) (reciprocalOf 257 k) (getD xs k 0)) (getD xs k 0)
+checked-entry xs k = go (every inverts 0 xs) refl (ltb k (length xs)) refl
+  where
+    go : (b : Bool) → every inverts 0 xs ≡ b → (d : Bool) → ltb k (length xs) ≡ d → getD xs k 0 ≡ cond b (cond d (reciprocalOf 257 k) (getD xs k 0)) (getD xs k 0)
+    go false e d f = refl
+    go true e false f = refl
+    go true e true f = inverts-is k (getD xs k 0) (at-entry inverts xs (rw e tt) k (ltb→lt k (length xs) (rw f tt)))
+
+mul-result : tie.Need-mul-result
+mul-result c = search needs
+
+array-read-result : tie.Need-array-read-result
+array-read-result c = search needs
+
+returns : tie.Need-returns
+unfolding inverts
+returns c = rw checked-entry (simp (lt-ltb _ _ (c .pre)))
+
+pub reciprocal-of-spec : {M : Type 1} → statement M
+reciprocal-of-spec = tie.close (tie.spec mul-result array-read-result returns)

@@ -1,0 +1,102 @@
+// The numbers modulo one of the four primes: any operands, reduced results.
+ghost use Prim.Native.Nat.{ℕ, _+_, _*_, _-_, _%_, _<_};
+ghost use mathlib.Core.Path.{_≡_};
+ghost use Rattle.field.specs.Primes.{modulusOf, primeOfCode};
+ghost use Rattle.field.specs.Residues.{differenceOf, negationOf, reciprocalOf};
+
+mod table257;
+
+// Paper 01, "Primes by code".
+pub enum Prime {
+    P7,
+    P97,
+    P257,
+    P65521,
+}
+
+pub fn prime_of_code(code: u32) -> Prime
+    ensures { λ r. ⌜ r ≡ primeOfCode code ⌝ }
+{
+    match code {
+        0 => Prime::P7,
+        1 => Prime::P97,
+        2 => Prime::P257,
+        _ => Prime::P65521,
+    }
+}
+
+pub fn modulus(q: Prime) -> u32
+    ensures { λ r. ⌜ r ≡ modulusOf q ⌝ }
+{
+    match q {
+        Prime::P7 => 7,
+        Prime::P97 => 97,
+        Prime::P257 => 257,
+        Prime::P65521 => 65521,
+    }
+}
+
+// Each remainder is by a constant, which compiles to a product and a shift.
+pub fn reduce(q: Prime, x: u64) -> u32
+    ensures { λ r. ⌜ r ≡ x % modulusOf q ⌝ }
+{
+    match q {
+        Prime::P7 => (x % 7) as u32,
+        Prime::P97 => (x % 97) as u32,
+        Prime::P257 => (x % 257) as u32,
+        Prime::P65521 => (x % 65521) as u32,
+    }
+}
+
+pub fn sum(q: Prime, a: u32, b: u32) -> u32
+    ensures { λ r. ⌜ r ≡ (a + b) % modulusOf q ⌝ }
+{
+    reduce(q, a as u64 + b as u64)
+}
+
+pub fn negation(q: Prime, a: u32) -> u32
+    ensures { λ r. ⌜ r ≡ negationOf (modulusOf q) a ⌝ }
+{
+    reduce(q, (modulus(q) - reduce(q, a as u64)) as u64)
+}
+
+pub fn difference(q: Prime, a: u32, b: u32) -> u32
+    ensures { λ r. ⌜ r ≡ differenceOf (modulusOf q) a b ⌝ }
+{
+    reduce(q, a as u64 + (modulus(q) - reduce(q, b as u64)) as u64)
+}
+
+pub fn product(q: Prime, a: u32, b: u32) -> u32
+    ensures { λ r. ⌜ r ≡ (a * b) % modulusOf q ⌝ }
+{
+    reduce(q, a as u64 * b as u64)
+}
+
+// Keeps acc * a = b modulo p while b falls to 1. It never is 0, since no b between 1 and p divides the prime p.
+fn computed_reciprocal(q: Prime, a: u32) -> u32
+    requires { ⌜ (0 < a) × (a < modulusOf q) ⌝ }
+    ensures { λ r. ⌜ r ≡ reciprocalOf (modulusOf q) a ⌝ }
+{
+    let p = modulus(q);
+    let mut acc: u32 = 1;
+    let mut b = a;
+    while 1 < b {
+        acc = product(q, acc, p - p / b);
+        b = p % b;
+    }
+    acc
+}
+
+// The reciprocal of 0 is 0.
+pub fn reciprocal(q: Prime, a: u32) -> u32
+    ensures { λ r. ⌜ r ≡ reciprocalOf (modulusOf q) a ⌝ }
+{
+    let x = reduce(q, a as u64);
+    if x == 0 {
+        return 0;
+    }
+    match q {
+        Prime::P257 => table257::reciprocal_of(x),
+        _ => computed_reciprocal(q, x),
+    }
+}

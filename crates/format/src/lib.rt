@@ -1,0 +1,97 @@
+// What a job's header fixes, and what a call answers.
+ghost use Prim.Native.Nat.{ℕ, _+_, _*_};
+ghost use mathlib.Core.Path.{_≡_};
+ghost use Rattle.format.specs.Bounds.{numeratorBoundOf, answerLengthOf};
+ghost use Rattle.format.specs.Outcomes.{numberOf, refusalOf, rowOf, bytesOf, wrongOf};
+use field::Prime;
+
+// The header's fields: the prime, n outputs, L rows, df, dg, E.
+pub struct Bounds {
+    pub prime: Prime,
+    pub outputs: usize,
+    pub rows: usize,
+    pub numerator: usize,
+    pub denominator: usize,
+    pub errors: usize,
+}
+
+impl Bounds {
+    // The degree bound of output i.
+    pub fn numerator_bound(self, i: usize) -> usize
+        ensures { λ r. ⌜ r ≡ numeratorBoundOf self i ⌝ }
+    {
+        self.numerator
+    }
+}
+
+// Paper 01, "When the rack's sheet is sent back": the eight refusals in the order of their numbers.
+pub enum Reason {
+    TooShort,
+    SpareBit,
+    ByteCount,
+    TooFewRows,
+    OutOfRange,
+    RepeatedPoint,
+    AreaTooShort,
+    NoAnswer,
+}
+
+// What a call answers. Accepted is the reader's answer to a well-formed job; recovery never gives it.
+pub enum Outcome {
+    Accepted,
+    Recovered { bytes: u32, wrong: u32 },
+    Refused { reason: Reason, row: u32 },
+}
+
+// The refusal's number in paper 01.
+pub fn number(reason: Reason) -> u32
+    ensures { λ r. ⌜ r ≡ numberOf reason ⌝ }
+{
+    match reason {
+        Reason::TooShort => 1,
+        Reason::SpareBit => 2,
+        Reason::ByteCount => 3,
+        Reason::TooFewRows => 4,
+        Reason::OutOfRange => 5,
+        Reason::RepeatedPoint => 6,
+        Reason::AreaTooShort => 7,
+        Reason::NoAnswer => 8,
+    }
+}
+
+// An outcome in the paper's numbers: the refusal (0 where none), the row, the bytes written, the wrong rows.
+pub struct Report {
+    pub refusal: u32,
+    pub row: u32,
+    pub bytes: u32,
+    pub wrong: u32,
+}
+
+pub fn numbers(outcome: Outcome) -> Report
+    ensures { λ r.
+        ⌜ (r .refusal ≡ refusalOf outcome) × (r .row ≡ rowOf outcome) × (r .bytes ≡ bytesOf outcome) × (r .wrong ≡ wrongOf outcome) ⌝ }
+{
+    match outcome {
+        Outcome::Accepted => Report {
+            refusal: 0,
+            row: 0,
+            bytes: 0,
+            wrong: 0,
+        },
+        Outcome::Recovered { bytes, wrong } => Report {
+            refusal: 0,
+            row: 0,
+            bytes: bytes,
+            wrong: wrong,
+        },
+        Outcome::Refused { reason, row } => {
+            let refusal = number(reason);
+            Report {
+                refusal: refusal,
+                row: row,
+                bytes: 0,
+                wrong: 0,
+            }
+        }
+    }
+}
