@@ -3,3 +3,4 @@ pub mod Primality
 pub mod Moduli
 pub mod Reciprocals
 mod Table
+pub mod PrimeField

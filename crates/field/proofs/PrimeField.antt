@@ -1,0 +1,143 @@
+-- The residues modulo a prime p are a field. A residue is a number below p, and a law of residues is the law of numbers under `residue`.
+use Prim.Native.Nat.{ℕ, zero, suc, _+_, _-_, _*_, _%_, _<_, Fin}
+use mathlib.Core.Path.{_≡_, refl, sym, ap, _∙_}
+use mathlib.Core.Logic.{_≢_}
+use native.Mathlib.Nat.{add-comm, add-mod-mod, add-zero, mod-add-mod, mod-eq-of-lt, mod-lt, mod-self, mul-comm, mul-one, zero-mod}
+use native.Mathlib.Decide.{Fin·val-path, Fin-discrete}
+use native.Mathlib.Omega.{arith}
+use Rattle.algebra.proofs.Ring.{Ring}
+use Rattle.algebra.proofs.Field.{Field}
+use Rattle.field.specs.Residues.{reciprocalOf}
+use Rattle.field.proofs.Primality.{IsPrime}
+use Rattle.field.proofs.Remainders.{mod-mul, mul-mod}
+use Rattle.field.proofs.Reciprocals.{reciprocal-inverts}
+
+module _ (p : ℕ) (P : IsPrime p) where
+  abbrev pub Residue : Type 0
+  Residue = Fin p
+
+  -- a number's residue
+  unfoldable pub residue : ℕ → Residue
+  residue n = (n % p, mod-lt n (let t = P .two in omega arith))
+
+  pub residue-equal : (m n : ℕ) → m % p ≡ n % p → residue m ≡ residue n
+  unfolding residue
+  residue-equal m n e = Fin·val-path e
+
+  pub equal-residue : (m n : ℕ) → residue m ≡ residue n → m % p ≡ n % p
+  unfolding residue
+  equal-residue m n e = ap (λ x. x .0) e
+
+  number-residue : (n : ℕ) → (residue n) .0 ≡ n % p
+  unfolding residue
+  number-residue n = refl
+
+  pub residue-number : (a : Residue) → residue (a .0) ≡ a
+  unfolding residue
+  residue-number a = Fin·val-path (mod-eq-of-lt (a .1))
+
+  unfoldable pub addR : Residue → Residue → Residue
+  addR a b = residue (a .0 + b .0)
+
+  unfoldable pub mulR : Residue → Residue → Residue
+  mulR a b = residue (a .0 * b .0)
+
+  unfoldable pub negR : Residue → Residue
+  negR a = residue (p - a .0)
+
+  unfoldable pub invR : Residue → Residue
+  invR a = residue (reciprocalOf p (a .0))
+
+  pub residue-add : (m n : ℕ) → addR (residue m) (residue n) ≡ residue (m + n)
+  unfolding addR
+  residue-add m n = residue-equal _ _ (rw (number-residue, number-residue) (mod-add-mod m p (n % p) ∙ add-mod-mod m n p))
+
+  pub residue-mul : (m n : ℕ) → mulR (residue m) (residue n) ≡ residue (m * n)
+  unfolding mulR
+  residue-mul m n = residue-equal _ _ (rw (number-residue, number-residue) (mod-mul m (n % p) p ∙ mul-mod m n p))
+
+  -- n and p - n cancel
+  pub residue-neg : (n : ℕ) → n < p → negR (residue n) ≡ residue (p - n)
+  unfolding negR
+  residue-neg n l = ap (λ x. residue (p - x)) (number-residue n ∙ mod-eq-of-lt l)
+
+  pub addR-comm : (a b : Residue) → addR a b ≡ addR b a
+  unfolding addR
+  addR-comm a b = ap residue (add-comm _ _)
+
+  pub addR-assoc : (a b c : Residue) → addR (addR a b) c ≡ addR a (addR b c)
+  addR-assoc a b c =
+      rw (← residue-number a, ← residue-number b, ← residue-number c) (simp residue-add (ap residue (omega arith)))
+
+  pub addR-null : (a : Residue) → addR a (residue 0) ≡ a
+  addR-null a = rw (← residue-number a) (simp (residue-add, add-zero))
+
+  pub addR-neg : (a : Residue) → addR a (negR a) ≡ residue 0
+  unfolding negR
+  addR-neg a =
+      let l = a .1 in
+      let whole : a .0 + (p - a .0) ≡ p = omega arith in
+      ap (λ x. addR x (negR a)) (sym (residue-number a)) ∙ residue-add (a .0) (p - a .0)
+      ∙ residue-equal _ _ (ap (λ x. x % p) whole ∙ mod-self p ∙ sym (zero-mod p))
+
+  pub mulR-comm : (a b : Residue) → mulR a b ≡ mulR b a
+  unfolding mulR
+  mulR-comm a b = ap residue (mul-comm _ _)
+
+  pub mulR-assoc : (a b c : Residue) → mulR (mulR a b) c ≡ mulR a (mulR b c)
+  mulR-assoc a b c =
+      rw (← residue-number a, ← residue-number b, ← residue-number c) (simp residue-mul (ap residue (omega arith)))
+
+  pub mulR-one : (a : Residue) → mulR a (residue 1) ≡ a
+  mulR-one a = rw (← residue-number a) (simp (residue-mul, mul-one))
+
+  pub mulR-add : (a b c : Residue) → mulR a (addR b c) ≡ addR (mulR a b) (mulR a c)
+  mulR-add a b c =
+      rw (← residue-number a, ← residue-number b, ← residue-number c)
+      (simp (residue-add, residue-mul) (ap residue (omega arith)))
+
+  abbrev pub residueRing : Ring
+  residueRing = record {
+    Carrier = Residue;
+    add = addR;
+    mul = mulR;
+    neg = negR;
+    null = residue 0;
+    one = residue 1;
+    add-comm = addR-comm;
+    add-assoc = addR-assoc;
+    add-null = addR-null;
+    add-neg = addR-neg;
+    mul-comm = mulR-comm;
+    mul-assoc = mulR-assoc;
+    mul-one = mulR-one;
+    mul-add = mulR-add;
+  }
+
+  -- the reciprocal of a residue that is not 0
+  pub mulR-inv : (a : Residue) → a ≢ residue 0 → mulR a (invR a) ≡ residue 1
+  unfolding invR
+  mulR-inv a nz =
+      mulR-comm a (invR a) ∙ ap (mulR (invR a)) (sym (residue-number a)) ∙ residue-mul _ (a .0)
+      ∙ residue-equal _ _ (reciprocal-inverts p P (a .0) (positive (a .0 % p) refl) ∙ sym (mod-eq-of-lt (let t = P .two in omega arith)))
+    where
+      positive : (n : ℕ) → a .0 % p ≡ n → 0 < n
+      positive (suc n) e = omega arith
+      positive zero e = absurd (nz (sym (residue-number a) ∙ residue-equal _ 0 (e ∙ sym (zero-mod p))))
+
+  pub one-not-null : residue 1 ≢ residue 0
+  one-not-null e =
+      let same : 1 % p ≡ 0 % p = equal-residue 1 0 e in
+      let t = P .two in
+      let one : 1 % p ≡ 1 = mod-eq-of-lt (omega arith) in
+      let null : 0 % p ≡ 0 = zero-mod p in
+      omega arith
+
+  abbrev pub residueField : Field
+  residueField = record {
+    ring = residueRing;
+    dec = Fin-discrete p;
+    inv = invR;
+    inv-mul = mulR-inv;
+    one≢null = one-not-null;
+  }
