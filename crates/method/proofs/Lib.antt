@@ -1,0 +1,10 @@
+pub mod Counting
+pub mod PairLaws
+pub mod Interpolation
+pub mod Solution
+pub mod Problem
+pub mod CrossProduct
+pub mod Outputs
+pub mod Decision
+pub mod Enlargement
+pub mod Witness
