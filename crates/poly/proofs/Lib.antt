@@ -1,0 +1,5 @@
+pub mod Lists
+pub mod Bounds
+pub mod Values
+pub mod Lengths
+pub mod Products

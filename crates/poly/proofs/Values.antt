@@ -1,0 +1,37 @@
+-- Horner's rule from the top coefficient down.
+use mathlib.Core.Path.{_≡_, refl, _∙_}
+use mathlib.Core.List.{List, [], _∷_}
+use Prim.Native.Nat.{ℕ, zero, suc, _+_, _-_, _*_, _%_, _≤_, _<_}
+use native.Mathlib.Nat.{mod-lt}
+use native.Mathlib.Omega.{arith}
+use lib.ListN.{length, drop}
+use lib.Seq.{drop-cons, getD-drop}
+use Rattle.poly.specs.Coefficients.{at}
+use Rattle.poly.specs.Operations.{valueOf}
+use Rattle.poly.proofs.Bounds.{zero-remainder}
+
+pub value-zeros : (p x : ℕ) (a : List ℕ) → ((k : ℕ) → at a k ≡ 0) → valueOf p x a ≡ 0
+unfolding valueOf
+value-zeros p x [] h = refl
+value-zeros p x (c ∷ cs) h =
+    let rest = value-zeros p x cs (λ k. h (suc k)) in
+    let top = h 0 in
+    let sum : c + x * valueOf p x cs ≡ 0 = rw (rest, top) (omega arith) in
+    zero-remainder p _ sum
+
+-- what the loop starts from: nothing from n on
+pub value-start : (p x n : ℕ) (a : List ℕ) → ((k : ℕ) → n ≤ k → at a k ≡ 0) → valueOf p x (drop n a) ≡ 0
+value-start p x n a h = value-zeros p x (drop n a) (λ k. getD-drop n a k 0 ∙ h (n + k) (omega arith))
+
+-- one coefficient more
+pub value-more : (p x : ℕ) (a : List ℕ) (i : ℕ) → 0 < i → i ≤ length a → valueOf p x (drop (i - 1) a) ≡ (at a (i - 1) + x * valueOf p x (drop i a)) % p
+unfolding valueOf
+value-more p x a zero h l = absurd (omega arith)
+value-more p x a (suc i) h l =
+    let e : suc i - 1 ≡ i = omega arith in
+    rw (e, drop-cons a i 0)
+
+pub value-below : (p x : ℕ) (a : List ℕ) → 0 < p → valueOf p x a < p
+unfolding valueOf
+value-below p x [] h = h
+value-below p x (c ∷ cs) h = mod-lt _ h
