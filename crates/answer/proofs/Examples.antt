@@ -1,0 +1,54 @@
+-- The definitions at some of paper 01's drawings.
+use mathlib.Core.Path.{_≡_, refl}
+use mathlib.Core.List.{[], _∷_, _++_}
+use lib.Dec.{eqb, lit≤}
+use lib.ListN.{replicate}
+use Rattle.field.specs.declared.Prime.the-variants.{P7}
+use Rattle.format.specs.declared.Bounds.{Bounds}
+use Rattle.format.specs.Bounds.{answerLengthOf}
+use Rattle.answer.specs.Word.{wordOf, wrongCountOf, firstWrongOf, countBelow, firstFrom}
+use Rattle.answer.specs.Bytes.{Storable, coefficientBytes, outputBytes, answerBytes, overwritten}
+
+-- H1: one output, three rows, df 0, dg 0, E 1
+h1 : Bounds
+h1 = record { prime = P7; outputs = 1; rows = 3; numerator = 0; denominator = 0; errors = 1 }
+
+-- H8: two outputs, three rows, df 1, dg 1, E 0
+h8 : Bounds
+h8 = record { prime = P7; outputs = 2; rows = 3; numerator = 1; denominator = 1; errors = 0 }
+
+-- H1: row 2 is wrong; 20000000 0001 0005, and what stands behind keeps its contents
+h1-word : wordOf 3 (λ r. eqb r 2) ≡ 536870912
+unfolding wordOf
+h1-word = refl
+
+h1-bytes : overwritten (answerBytes h1 536870912 (1 ∷ []) (5 ∷ [])) (9 ∷ 9 ∷ 9 ∷ 9 ∷ 9 ∷ 9 ∷ 9 ∷ 9 ∷ 77 ∷ [])
+    ≡ 32 ∷ 0 ∷ 0 ∷ 0 ∷ 0 ∷ 1 ∷ 0 ∷ 5 ∷ 77 ∷ []
+unfolding h1 coefficientBytes outputBytes
+h1-bytes = refl
+
+h1-count : wrongCountOf 536870912 ≡ 1
+unfolding countBelow
+h1-count = refl
+
+h1-first : firstWrongOf 536870912 ≡ 2
+unfolding firstFrom
+h1-first = refl
+
+-- H8: g = 1 + u, f1 = 1, f2 = u; the second output's coefficients stand at index 32 on
+h8-bytes : answerBytes h8 0 (1 ∷ 1 ∷ []) (1 ∷ replicate 31 0 ++ 0 ∷ 1 ∷ []) ≡ 0 ∷ 0 ∷ 0 ∷ 0 ∷ 0 ∷ 1 ∷ 0 ∷ 1 ∷ 0 ∷ 1 ∷ 0 ∷ 0 ∷ 0 ∷ 0 ∷ 0 ∷ 1 ∷ []
+unfolding h8 coefficientBytes outputBytes
+h8-bytes = refl
+
+h8-length : answerLengthOf h8 ≡ 16
+unfolding h8
+h8-length = refl
+
+h8-storable : Storable h8
+unfolding h8
+h8-storable = record { few = lit≤ tt; denominator-low = lit≤ tt; numerators-low = λ i. lit≤ tt }
+
+-- row 8 stands in the second byte
+row-8 : wordOf 9 (λ r. eqb r 8) ≡ 8388608
+unfolding wordOf
+row-8 = refl

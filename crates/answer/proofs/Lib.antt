@@ -1,0 +1,7 @@
+pub mod Words
+pub mod Marks
+pub mod Splices
+pub mod Lengths
+pub mod Runs
+pub mod Determined
+mod Examples

@@ -1,0 +1,172 @@
+-- Laws of the word of n rows: its bits, its ones, its leading zeros.
+use Prim.Native.Nat.{ℕ, zero, suc, _+_, _-_, _*_, _/_, _%_, _^_, _≤_, _<_}
+use mathlib.Core.Path.{_≡_, refl, sym, ap, ap₂, _∙_}
+use mathlib.Core.Bool.{Bool, true, false, cond}
+use mathlib.Core.Logic.{_↔_}
+use native.Mathlib.Nat.{pow-suc, add-zero, add-suc, zero-add, zero-mul, mul-assoc, mul-mod-left, mul-le-mul-right, mod-lt, div-add-mod', div-one, lt-of-not-le, lt-suc-self}
+use native.Mathlib.Numerals.{add-one}
+use native.Mathlib.Omega.{arith}
+use lib.Dec.{lit<, lit≤}
+use lib.Arith.{digits-div, digits-mod}
+use lib.Pow.{pow-pos, pow-add, shl-shr, shr-shr}
+use lib.Count.{ones, onesIn, ones-cat, leadingZeros, leading-of-zero, leading-unique}
+use Rattle.answer.specs.Word.{flagOf, bitAt, withRow, wordOf, countBelow, firstFrom, firstWrong}
+
+-- the flags of rows 0 to n - 1 as a binary number, row n - 1 last: the word without the places behind them
+unfoldable pub prefixOf : (ℕ → Bool) → ℕ → ℕ
+prefixOf wrong zero = 0
+prefixOf wrong (suc n) = prefixOf wrong n * 2 + flagOf (wrong n)
+
+flag-lt : (wrong : Bool) → flagOf wrong < 2
+flag-lt true = lit< tt
+flag-lt false = lit< tt
+
+-- one place further down
+lower : (n : ℕ) → n < 32 → 2 ^ (32 - n) ≡ 2 ^ (31 - n) * 2
+lower n h = let place : 32 - n ≡ suc (31 - n) = omega arith in ap (λ k. 2 ^ k) place ∙ pow-suc 2 (31 - n)
+
+-- the word is the prefix, moved to the top
+word-prefix : (n : ℕ) (wrong : ℕ → Bool) → n ≤ 32 → wordOf n wrong ≡ prefixOf wrong n * 2 ^ (32 - n)
+unfolding wordOf prefixOf
+word-prefix zero wrong h = refl
+word-prefix (suc n) wrong h =
+    let ih = word-prefix n wrong (omega arith) in
+    let below : 32 - suc n ≡ 31 - n = omega arith in
+    rw (below, ih, lower n h) (omega arith)
+
+-- one row more, as a loop counts
+pub next-row : (n : ℕ) (wrong : ℕ → Bool) → wordOf (n + 1) wrong ≡ withRow (wordOf n wrong) n (wrong n)
+unfolding wordOf
+next-row n wrong = rw add-one
+
+-- the word depends on the rows that exist and on no others
+pub word-same : (n : ℕ) (wrong wrong′ : ℕ → Bool) → ((r : ℕ) → r < n → wrong r ≡ wrong′ r) → wordOf n wrong ≡ wordOf n wrong′
+unfolding wordOf
+word-same zero wrong wrong′ same = refl
+word-same (suc n) wrong wrong′ same =
+    ap₂ (λ word flag. withRow word n flag) (word-same n wrong wrong′ (λ r h. same r (omega arith))) (same n (lt-suc-self n))
+
+-- above the word of n rows there is room for the rows behind them
+room : (n : ℕ) (wrong : ℕ → Bool) → n ≤ 32 → wordOf n wrong + 2 ^ (32 - n) ≤ 2 ^ 32
+unfolding wordOf
+room zero wrong h = lit≤ tt
+room (suc n) wrong h =
+    let below : 32 - suc n ≡ 31 - n = omega arith in
+    let flag = flag-lt (wrong n) in
+    let one : flagOf (wrong n) * 2 ^ (31 - n) ≤ 1 * 2 ^ (31 - n) = mul-le-mul-right (2 ^ (31 - n)) (omega arith) in
+    rw below (omega (arith, room n wrong (omega arith), lower n h))
+
+-- the word has 32 bits
+pub word-lt : (n : ℕ) (wrong : ℕ → Bool) → n ≤ 32 → wordOf n wrong < 2 ^ 32
+word-lt n wrong h = omega (arith, room n wrong h, pow-pos (32 - n))
+
+-- what `with_row` asks of the word of the rows before
+pub row-room : (n : ℕ) (wrong : ℕ → Bool) → n < 32 → wordOf n wrong + 2 ^ (31 - n) < 2 ^ 32
+row-room n wrong h = omega (arith, room n wrong (omega arith), lower n h, pow-pos (31 - n))
+
+prefix-of-prefix : (wrong : ℕ → Bool) (k m : ℕ) → prefixOf wrong (k + m) / 2 ^ m ≡ prefixOf wrong k
+unfolding prefixOf
+prefix-of-prefix wrong k zero = rw add-zero (div-one (prefixOf wrong k))
+prefix-of-prefix wrong k (suc m) =
+    let e : suc m ≡ 1 + m = omega arith in
+    let half = digits-div (prefixOf wrong (k + m)) (flag-lt (wrong (k + m))) in
+    rw add-suc (rw e (sym (shr-shr (prefixOf wrong (suc (k + m))) 1 m) ∙ ap (λ x. x / 2 ^ m) half ∙ prefix-of-prefix wrong k m))
+
+-- the word's top k bits are the flags of the first k rows
+pub word-top : (n : ℕ) (wrong : ℕ → Bool) (k : ℕ) → n ≤ 32 → k ≤ n → wordOf n wrong / 2 ^ (32 - k) ≡ prefixOf wrong k
+word-top n wrong k h below =
+    let places : 32 - k ≡ (32 - n) + (n - k) = omega arith in
+    let rows : n ≡ k + (n - k) = omega arith in
+    ap₂ (λ w j. w / 2 ^ j) (word-prefix n wrong h) places
+    ∙ sym (shr-shr (prefixOf wrong n * 2 ^ (32 - n)) (32 - n) (n - k))
+    ∙ ap (λ x. x / 2 ^ (n - k)) (shl-shr (prefixOf wrong n) (32 - n))
+    ∙ ap (λ j. prefixOf wrong j / 2 ^ (n - k)) rows
+    ∙ prefix-of-prefix wrong k (n - k)
+
+-- the bit of a row that exists
+pub bit-of-row : (n : ℕ) (wrong : ℕ → Bool) (r : ℕ) → n ≤ 32 → r < n → bitAt (wordOf n wrong) r ≡ flagOf (wrong r)
+unfolding prefixOf
+bit-of-row n wrong r h below =
+    let place : 31 - r ≡ 32 - suc r = omega arith in
+    ap (λ j. wordOf n wrong / 2 ^ j % 2) place ∙ ap (λ x. x % 2) (word-top n wrong (suc r) h below)
+    ∙ digits-mod (prefixOf wrong r) (flag-lt (wrong r))
+
+-- "Rows that don't exist have 0"
+pub bit-of-none : (n : ℕ) (wrong : ℕ → Bool) (r : ℕ) → n ≤ r → r < 32 → bitAt (wordOf n wrong) r ≡ 0
+bit-of-none n wrong r above h =
+    let places : 32 - n ≡ suc (r - n) + (31 - r) = omega arith in
+    let head = prefixOf wrong n in
+    let moved : wordOf n wrong ≡ head * 2 ^ suc (r - n) * 2 ^ (31 - r) =
+    word-prefix n wrong (omega arith) ∙ ap (λ j. head * 2 ^ j) places
+    ∙ ap (λ x. head * x) (pow-add 2 (suc (r - n)) (31 - r)) ∙ sym (mul-assoc head (2 ^ suc (r - n)) (2 ^ (31 - r))) in
+    ap (λ w. w / 2 ^ (31 - r) % 2) moved ∙ ap (λ x. x % 2) (shl-shr (head * 2 ^ suc (r - n)) (31 - r))
+    ∙ ap (λ x. head * x % 2) (pow-suc 2 (r - n)) ∙ ap (λ x. x % 2) (sym (mul-assoc head (2 ^ (r - n)) 2))
+    ∙ mul-mod-left (head * 2 ^ (r - n)) 2
+
+flag-one : (wrong : Bool) → flagOf wrong ≡ 1 → wrong ≡ true
+flag-one true e = refl
+flag-one false e = absurd (omega arith)
+
+-- a bit of the word is 1 exactly for a row that exists and is wrong
+pub bit-exactly : (n : ℕ) (wrong : ℕ → Bool) (r : ℕ) → n ≤ 32 → r < 32 → (bitAt (wordOf n wrong) r ≡ 1) ↔ ((r < n) × (wrong r ≡ true))
+bit-exactly n wrong r h below = (
+  λ e.
+      let exists : r < n = lt-of-not-le (λ above. let clear = bit-of-none n wrong r above below in omega arith) in
+      (exists, flag-one (wrong r) (sym (bit-of-row n wrong r h exists) ∙ e)),
+  λ e. bit-of-row n wrong r h (e .0) ∙ ap flagOf (e .1),
+)
+
+ones-flag : (wrong : Bool) → ones (flagOf wrong) ≡ flagOf wrong
+unfolding ones onesIn
+ones-flag true = refl
+ones-flag false = refl
+
+ones-prefix : (wrong : ℕ → Bool) (n : ℕ) → ones (prefixOf wrong n) ≡ countBelow n wrong
+unfolding prefixOf countBelow
+ones-prefix wrong zero = ones-flag false
+ones-prefix wrong (suc n) =
+    ones-cat 1 (prefixOf wrong n) (flagOf (wrong n)) (flag-lt (wrong n)) ∙ ap₂ (λ a b. a + b) (ones-prefix wrong n) (ones-flag (wrong n))
+
+-- the ones of the word are the wrong rows
+pub ones-word : (n : ℕ) (wrong : ℕ → Bool) → n ≤ 32 → ones (wordOf n wrong) ≡ countBelow n wrong
+ones-word n wrong h =
+    let head = prefixOf wrong n in
+    let word : wordOf n wrong ≡ head * 2 ^ (32 - n) + 0 = word-prefix n wrong h ∙ sym (add-zero (head * 2 ^ (32 - n))) in
+    ap ones word ∙ ones-cat (32 - n) head 0 (pow-pos (32 - n))
+    ∙ ap (λ x. ones head + x) (ones-flag false) ∙ add-zero (ones head) ∙ ones-prefix wrong n
+
+-- a word whose top r + 1 bits are 0 .. 0 1
+leading-place : (word r : ℕ) → r < 32 → word / 2 ^ (31 - r) ≡ 1 → leadingZeros 32 word ≡ r
+leading-place word r h e =
+    let place = 2 ^ (31 - r) in
+    let whole : 1 * place + word % place ≡ word = ap (λ q. q * place + word % place) (sym e) ∙ div-add-mod' word place in
+    let rest = mod-lt word (pow-pos (31 - r)) in
+    sym (leading-unique 32 word r (suc (31 - r)) (omega arith) (omega (arith, pow-suc 2 (31 - r))) (omega (arith, pow-suc 2 (31 - r))))
+
+leading-from : (m r : ℕ) (wrong : ℕ → Bool) → r + m ≤ 32 → prefixOf wrong r ≡ 0 → leadingZeros 32 (wordOf (r + m) wrong) ≡ firstFrom m r wrong
+unfolding prefixOf firstFrom
+leading-from zero r wrong h clear =
+    let none : wordOf (r + 0) wrong ≡ 0 =
+    ap (λ n. wordOf n wrong) (add-zero r) ∙ word-prefix r wrong (omega arith) ∙ ap (λ x. x * 2 ^ (32 - r)) clear ∙ zero-mul (2 ^ (32 - r)) in
+    ap (leadingZeros 32) none ∙ leading-of-zero 32
+leading-from (suc m) r wrong h clear = by-flag (wrong r) refl (leading-from m (suc r) wrong (omega arith))
+  where
+    rows : r + suc m ≡ suc r + m
+    rows = omega arith
+
+    by-flag : (flag : Bool) → wrong r ≡ flag
+        → (prefixOf wrong (suc r) ≡ 0 → leadingZeros 32 (wordOf (suc r + m) wrong) ≡ firstFrom m (suc r) wrong)
+        → leadingZeros 32 (wordOf (r + suc m) wrong) ≡ cond (wrong r) r (firstFrom m (suc r) wrong)
+    by-flag true e later =
+        let place : 31 - r ≡ 32 - suc r = omega arith in
+        let top : wordOf (r + suc m) wrong / 2 ^ (31 - r) ≡ 1 =
+        ap (λ j. wordOf (r + suc m) wrong / 2 ^ j) place ∙ word-top (r + suc m) wrong (suc r) h (omega arith)
+        ∙ ap₂ (λ x flag. x * 2 + flagOf flag) clear e in
+        rw e (leading-place (wordOf (r + suc m) wrong) r (omega arith) top)
+    by-flag false e later =
+        rw (e, rows) (later (ap₂ (λ x flag. x * 2 + flagOf flag) clear e))
+
+-- the leading zeros of the word are the first wrong row
+pub leading-word : (n : ℕ) (wrong : ℕ → Bool) → n ≤ 32 → leadingZeros 32 (wordOf n wrong) ≡ firstWrong n wrong
+unfolding prefixOf
+leading-word n wrong h = ap (λ k. leadingZeros 32 (wordOf k wrong)) (sym (zero-add n)) ∙ leading-from n 0 wrong (omega arith) refl

@@ -1,0 +1,92 @@
+use Prim.Native.Nat.{_+_, _-_, _*_, _≤_}
+use mathlib.Core.Path.{_≡_, refl, sym, ap, _∙_}
+use native.Mathlib.Omega.{arith}
+use lib.ListN.{length}
+use borrow.Author.Needs.{needs}
+use Rattle.answer.specs.Bytes.{coefficientBytes, spliced}
+use Rattle.answer.proofs.Splices.{splice-none}
+use Rattle.answer.proofs.Runs.{next-coefficient}
+use Rattle.answer.proofs.put_coefficients.Statement.{statement}
+use Rattle.answer.proofs.put_coefficients.Tie as tie
+
+abbrev Inv-loop : tie.InvT-loop
+Inv-loop area₀ at a start count k₀ area k = (k ≤ count) × (length area ≡ length area₀) × (area ≡ spliced at (coefficientBytes a start k) area₀)
+
+abbrev μ-loop : tie.MeasureT-loop
+μ-loop area₀ at a start count k₀ area k = count - k
+
+loop-holds : tie.Need-loop-holds Inv-loop μ-loop
+unfolding coefficientBytes
+loop-holds c = let g = c .before .before .args in (search needs, refl, sym (splice-none (g .at) (g .area .now)))
+
+mul-put-number : tie.Need-mul-put-number Inv-loop μ-loop
+mul-put-number c = omega arith
+
+add-put-number : tie.Need-add-put-number Inv-loop μ-loop
+add-put-number c = omega arith
+
+add-put-number-2 : tie.Need-add-put-number-2 Inv-loop μ-loop
+add-put-number-2 c = omega arith
+
+mul-put-number-2 : tie.Need-mul-put-number-2 Inv-loop μ-loop
+mul-put-number-2 c = omega arith
+
+shared-slice-read-put-number : tie.Need-shared-slice-read-put-number Inv-loop μ-loop
+shared-slice-read-put-number c = omega arith
+
+put-number-requires : tie.Need-put-number-requires Inv-loop μ-loop
+put-number-requires c κs = omega arith
+
+add-k : tie.Need-add-k Inv-loop μ-loop
+add-k c = omega arith
+
+loop-less : tie.Need-loop-less Inv-loop μ-loop
+loop-less c = omega arith
+
+loop-again : tie.Need-loop-again Inv-loop μ-loop
+loop-again c =
+    let s = c .before .before .before .before .before .before in
+    let g = s .before .before .before .args in
+    let r = c .before .before .put-number in
+    let room : g .at + 2 * s .loop .k ≤ length (g .area .now) = omega arith in (
+      omega arith,
+      r .kept .0 ∙ s .loop .inv .1,
+      r .ensures ∙ next-coefficient (g .at) (g .a .now) (g .start) (s .loop .k) (g .area .now) (s .loop .area) room (s .loop .inv .2),
+    )
+
+mul-result : tie.Need-mul-result Inv-loop μ-loop
+mul-result c = omega arith
+
+add-result : tie.Need-add-result Inv-loop μ-loop
+add-result c = omega arith
+
+same-length : tie.Need-same-length Inv-loop μ-loop
+same-length c = c .before .loop .inv .1
+
+returns : tie.Need-returns Inv-loop μ-loop
+returns c =
+    let s = c .before in
+    let g = s .before .before .before .args in
+    let all : s .loop .k ≡ g .count = omega arith in
+    (refl, s .loop .inv .2 ∙ ap (λ k. spliced (g .at) (coefficientBytes (g .a .now) (g .start) k) (g .area .now)) all)
+
+pub put-coefficients-spec : {M : Type 1} → statement M
+put-coefficients-spec =
+    tie.close
+    (tie.spec
+    Inv-loop
+    μ-loop
+    loop-holds
+    mul-put-number
+    add-put-number
+    add-put-number-2
+    mul-put-number-2
+    shared-slice-read-put-number
+    put-number-requires
+    add-k
+    loop-less
+    loop-again
+    mul-result
+    add-result
+    same-length
+    returns)

@@ -1,0 +1,32 @@
+use Prim.Native.Nat.{_+_, _-_, _*_, _%_, _^_}
+use mathlib.Core.Path.{_≡_, ap}
+use native.Mathlib.Nat.{mod-eq-of-lt}
+use native.Mathlib.Omega.{arith}
+use borrow.Author.Needs.{needs}
+use Rattle.answer.proofs.with_row.Statement.{statement}
+use Rattle.answer.proofs.with_row.Tie as tie
+
+sub-result : tie.Need-sub-result
+sub-result c = search needs
+
+cast-result : tie.Need-cast-result
+cast-result c = search needs
+
+shl-result : tie.Need-shl-result
+shl-result c = search needs
+
+add-result : tie.Need-add-result
+add-result c = search needs
+
+returns : tie.Need-returns
+returns c =
+    let g = c .before .args in
+    let place = 2 ^ (31 - g .row) in
+    let whole : 1 * place % 4294967296 ≡ 1 * place = mod-eq-of-lt (omega arith) in
+    rw (c .if1 .taken) (ap (λ x. g .word + x) whole)
+
+returns-2 : tie.Need-returns-2
+returns-2 c = rw (c .if1 .left) (omega arith)
+
+pub with-row-spec : {M : Type 1} → statement M
+with-row-spec = tie.close (tie.spec sub-result cast-result shl-result add-result returns returns-2)

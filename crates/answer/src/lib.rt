@@ -1,0 +1,100 @@
+// Paper 01, "The recovered sheet": an answer written as bytes, and the word of wrong rows.
+ghost use Prim.Native.Nat.{_+_, _-_, _*_, _^_, _≤_, _<_};
+ghost use mathlib.Core.Path.{_≡_};
+ghost use lib.ListN.{length};
+ghost use Rattle.format.specs.Bounds.{answerLengthOf};
+ghost use Rattle.answer.specs.Word.{withRow, wrongCountOf, firstWrongOf};
+ghost use Rattle.answer.specs.Bytes.{Storable, twoBytes, fourBytes, coefficientBytes, outputBytes, answerBytes, overwritten, spliced};
+use format::Bounds;
+
+// The word with the bit of one more row.
+pub fn with_row(word: u32, row: usize, wrong: bool) -> u32
+    requires { ⌜ (row < 32) × (word + 2 ^ (31 - row) < 2 ^ 32) ⌝ }
+    ensures { λ r. ⌜ r ≡ withRow word row wrong ⌝ }
+{
+    if wrong {
+        word + (1 << (31 - row))
+    } else {
+        word
+    }
+}
+
+pub fn wrong_count(word: u32) -> u32
+    ensures { λ r. ⌜ r ≡ wrongCountOf word ⌝ }
+{
+    u32::count_ones(word)
+}
+
+// 32 where no row is wrong.
+pub fn first_wrong(word: u32) -> u32
+    ensures { λ r. ⌜ r ≡ firstWrongOf word ⌝ }
+{
+    u32::leading_zeros(word)
+}
+
+// How many bytes an answer has.
+pub fn length(b: Bounds) -> usize
+    requires { ⌜ Storable b ⌝ }
+    ensures { λ r. ⌜ r ≡ answerLengthOf b ⌝ }
+{
+    4 + 2 * ((b.denominator + 1) + b.outputs * (b.numerator + 1))
+}
+
+fn put_word(area: &mut [u8], word: u32)
+    requires { ⌜ 4 ≤ length (now area) ⌝ }
+    ensures { λ _. ⌜ now (area .exit) ≡ overwritten (fourBytes word) (now (area .entry)) ⌝ }
+{
+    area[0] = (word / 16777216 % 256) as u8;
+    area[1] = (word / 65536 % 256) as u8;
+    area[2] = (word / 256 % 256) as u8;
+    area[3] = (word % 256) as u8;
+}
+
+// A 16-bit number from a place on.
+fn put_number(area: &mut [u8], at: usize, value: u32)
+    requires { ⌜ at + 2 ≤ length (now area) ⌝ }
+    ensures { λ _. ⌜ now (area .exit) ≡ spliced at (twoBytes value) (now (area .entry)) ⌝ }
+{
+    area[at] = (value / 256 % 256) as u8;
+    area[at + 1] = (value % 256) as u8;
+}
+
+// A run of coefficients from a place on; returns the place behind it.
+fn put_coefficients(area: &mut [u8], at: usize, a: &[u32], start: usize, count: usize) -> usize
+    requires { ⌜ (start + count ≤ length (now a)) × (at + 2 * count ≤ length (now area)) ⌝ }
+    ensures { λ r.
+        ⌜ (r ≡ at + 2 * count)
+        × (now (area .exit) ≡ spliced at (coefficientBytes (now (a .entry)) start count) (now (area .entry))) ⌝ }
+{
+    for k in 0..count {
+        put_number(area, at + 2 * k, a[start + k]);
+    }
+    at + 2 * count
+}
+
+// The numerators from a place on; returns the place behind them.
+fn put_outputs(area: &mut [u8], at: usize, b: Bounds, f: [u32; 128]) -> usize
+    requires { ⌜ (Storable b) × (at + length (outputBytes b f (b .outputs)) ≤ length (now area)) ⌝ }
+    ensures { λ r.
+        ⌜ (r ≡ at + length (outputBytes b f (b .outputs)))
+        × (now (area .exit) ≡ spliced at (outputBytes b f (b .outputs)) (now (area .entry))) ⌝ }
+{
+    let n = b.outputs;
+    let mut next = at;
+    for i in 0..n {
+        next = put_coefficients(area, next, &f, i * 32, b.numerator_bound(i) + 1);
+    }
+    next
+}
+
+// Writes the answer to the area's start and returns how many bytes it wrote.
+pub fn write(area: &mut [u8], b: Bounds, word: u32, g: [u32; 32], f: [u32; 128]) -> usize
+    requires { ⌜ (Storable b) × (answerLengthOf b ≤ length (now area)) ⌝ }
+    ensures { λ r.
+        ⌜ (r ≡ answerLengthOf b) × (now (area .exit) ≡ overwritten (answerBytes b word g f) (now (area .entry))) ⌝ }
+{
+    put_word(area, word);
+    let dg = b.denominator;
+    let next = put_coefficients(area, 4, &g, 0, dg + 1);
+    put_outputs(area, next, b, f)
+}
