@@ -1,0 +1,20 @@
+use Rattle.field.proofs.Remainders.{product-fits}
+use Rattle.poly.proofs.Bounds.{product-plus-fits}
+use borrow.Author.Needs.{needs}
+use Rattle.euclid.proofs.plus_product.Statement.{statement}
+use Rattle.euclid.proofs.plus_product.Tie as tie
+
+mul-reduce : tie.Need-mul-reduce
+mul-reduce c = record { fits = product-fits (c .fits .m .fits) (c .fits .y .fits) }
+
+add-reduce : tie.Need-add-reduce
+add-reduce c = record { fits = product-plus-fits (c .fits .m .fits) (c .fits .y .fits) (c .fits .x .fits) }
+
+reduce-requires : tie.Need-reduce-requires
+reduce-requires c κs = search needs
+
+returns : tie.Need-returns
+returns c = search needs
+
+pub plus-product-spec : {M : Type 1} → statement M
+plus-product-spec = tie.close (tie.spec mul-reduce add-reduce reduce-requires returns)

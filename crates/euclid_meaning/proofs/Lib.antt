@@ -1,0 +1,4 @@
+mod Monomials
+pub mod Steps
+pub mod Division
+pub mod Euclid
