@@ -1,13 +1,13 @@
 -- The definitions at some of paper 01's drawings.
 use mathlib.Core.Path.{_≡_, refl}
-use mathlib.Core.List.{[], _∷_, _++_}
+use mathlib.Core.Bool.{cond}
+use mathlib.Core.List.{[], _∷_}
 use lib.Dec.{eqb, lit≤}
-use lib.ListN.{replicate}
 use Rattle.field.specs.declared.Prime.the-variants.{P7}
 use Rattle.format.specs.declared.Bounds.{Bounds}
-use Rattle.format.specs.Bounds.{answerLengthOf}
+use Rattle.format.specs.Bounds.{answerLengthOf, Storable}
 use Rattle.answer.specs.Word.{wordOf, wrongCountOf, firstWrongOf, countBelow, firstFrom}
-use Rattle.answer.specs.Bytes.{Storable, coefficientBytes, outputBytes, answerBytes, overwritten}
+use Rattle.answer.specs.Bytes.{coefficientBytes, outputBytes, answerBytes, numeratorStart, overwritten}
 
 -- H1: one output, three rows, df 0, dg 0, E 1
 h1 : Bounds
@@ -22,7 +22,7 @@ h1-word : wordOf 3 (λ r. eqb r 2) ≡ 536870912
 unfolding wordOf
 h1-word = refl
 
-h1-bytes : overwritten (answerBytes h1 536870912 (1 ∷ []) (5 ∷ [])) (9 ∷ 9 ∷ 9 ∷ 9 ∷ 9 ∷ 9 ∷ 9 ∷ 9 ∷ 77 ∷ [])
+h1-bytes : overwritten (answerBytes h1 536870912 (1 ∷ []) (λ i. 5 ∷ [])) (9 ∷ 9 ∷ 9 ∷ 9 ∷ 9 ∷ 9 ∷ 9 ∷ 9 ∷ 77 ∷ [])
     ≡ 32 ∷ 0 ∷ 0 ∷ 0 ∷ 0 ∷ 1 ∷ 0 ∷ 5 ∷ 77 ∷ []
 unfolding h1 coefficientBytes outputBytes
 h1-bytes = refl
@@ -35,14 +35,18 @@ h1-first : firstWrongOf 536870912 ≡ 2
 unfolding firstFrom
 h1-first = refl
 
--- H8: g = 1 + u, f1 = 1, f2 = u; the second output's coefficients stand at index 32 on
-h8-bytes : answerBytes h8 0 (1 ∷ 1 ∷ []) (1 ∷ replicate 31 0 ++ 0 ∷ 1 ∷ []) ≡ 0 ∷ 0 ∷ 0 ∷ 0 ∷ 0 ∷ 1 ∷ 0 ∷ 1 ∷ 0 ∷ 1 ∷ 0 ∷ 0 ∷ 0 ∷ 0 ∷ 0 ∷ 1 ∷ []
+-- H8: g = 1 + u, f1 = 1, f2 = u
+h8-bytes : answerBytes h8 0 (1 ∷ 1 ∷ []) (λ i. cond (eqb i 0) (1 ∷ 0 ∷ []) (0 ∷ 1 ∷ [])) ≡ 0 ∷ 0 ∷ 0 ∷ 0 ∷ 0 ∷ 1 ∷ 0 ∷ 1 ∷ 0 ∷ 1 ∷ 0 ∷ 0 ∷ 0 ∷ 0 ∷ 0 ∷ 1 ∷ []
 unfolding h8 coefficientBytes outputBytes
 h8-bytes = refl
 
 h8-length : answerLengthOf h8 ≡ 16
 unfolding h8
 h8-length = refl
+
+h8-start : numeratorStart h8 1 ≡ 12
+unfolding h8 numeratorStart
+h8-start = refl
 
 h8-storable : Storable h8
 unfolding h8

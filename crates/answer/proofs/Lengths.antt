@@ -8,62 +8,68 @@ use lib.ListN.{length, getD, take, drop, length-append}
 use lib.Seq.{take-at, drop-at}
 use Rattle.format.specs.declared.Bounds.{Bounds}
 use Rattle.format.specs.Bounds.{numeratorBoundOf, answerLengthOf}
-use Rattle.answer.specs.Bytes.{twoBytes, fourBytes, coefficientBytes, outputBytes, answerBytes, overwritten}
+use Rattle.answer.specs.Bytes.{twoBytes, fourBytes, coefficientBytes, outputBytes, answerBytes, numeratorStart, overwritten}
 
-pub length-coefficients : (a : List ℕ) (start count : ℕ) → length (coefficientBytes a start count) ≡ 2 * count
+pub length-coefficients : (a : List ℕ) (count : ℕ) → length (coefficientBytes a count) ≡ 2 * count
 unfolding coefficientBytes
-length-coefficients a start zero = refl
-length-coefficients a start (suc count) =
-    omega (arith, length-append (coefficientBytes a start count) (twoBytes (getD a (start + count) 0)), length-coefficients a start count)
+length-coefficients a zero = refl
+length-coefficients a (suc count) =
+    omega (arith, length-append (coefficientBytes a count) (twoBytes (getD a count 0)), length-coefficients a count)
 
 -- one output more
-pub length-output : (b : Bounds) (f : List ℕ) (i : ℕ) → length (outputBytes b f (suc i)) ≡ length (outputBytes b f i) + 2 * (numeratorBoundOf b i + 1)
+pub length-output : (b : Bounds) (f : ℕ → List ℕ) (i : ℕ) → length (outputBytes b f (suc i)) ≡ length (outputBytes b f i) + 2 * (numeratorBoundOf b i + 1)
 unfolding outputBytes
 length-output b f i =
     let count = numeratorBoundOf b i + 1 in
-    length-append (outputBytes b f i) (coefficientBytes f (i * 32) count)
-    ∙ ap (λ k. length (outputBytes b f i) + k) (length-coefficients f (i * 32) count)
+    length-append (outputBytes b f i) (coefficientBytes (f i) count)
+    ∙ ap (λ k. length (outputBytes b f i) + k) (length-coefficients (f i) count)
 
 -- the first i outputs take no more than all n
-outputs-rising : (b : Bounds) (f : List ℕ) (i m : ℕ) → length (outputBytes b f i) ≤ length (outputBytes b f (i + m))
+outputs-rising : (b : Bounds) (f : ℕ → List ℕ) (i m : ℕ) → length (outputBytes b f i) ≤ length (outputBytes b f (i + m))
 outputs-rising b f i zero = let e : i + 0 ≡ i = omega arith in rw e (le-refl (length (outputBytes b f i)))
 outputs-rising b f i (suc m) =
     let e : i + suc m ≡ suc (i + m) = omega arith in
     rw e (omega (arith, outputs-rising b f i m, length-output b f (i + m)))
 
-pub output-within : (b : Bounds) (f : List ℕ) (i n : ℕ) → i < n → length (outputBytes b f i) + 2 * (numeratorBoundOf b i + 1) ≤ length (outputBytes b f n)
+pub output-within : (b : Bounds) (f : ℕ → List ℕ) (i n : ℕ) → i < n → length (outputBytes b f i) + 2 * (numeratorBoundOf b i + 1) ≤ length (outputBytes b f n)
 output-within b f i n h =
     let e : n ≡ suc i + (n - suc i) = omega arith in
     rw e (omega (arith, length-output b f i, outputs-rising b f (suc i) (n - suc i)))
 
-pub length-outputs : (b : Bounds) (f : List ℕ) (n : ℕ) → length (outputBytes b f n) ≡ 2 * (n * (b .numerator + 1))
+pub length-outputs : (b : Bounds) (f : ℕ → List ℕ) (n : ℕ) → length (outputBytes b f n) ≡ 2 * (n * (b .numerator + 1))
 unfolding outputBytes
 length-outputs b f zero = omega arith
 length-outputs b f (suc n) = omega (arith, length-outputs b f n, length-output b f n)
 
 -- where the last output ends
-pub answer-end : (b : Bounds) (f : List ℕ) → 4 + 2 * (b .denominator + 1) + length (outputBytes b f (b .outputs)) ≡ answerLengthOf b
+pub answer-end : (b : Bounds) (f : ℕ → List ℕ) → 4 + 2 * (b .denominator + 1) + length (outputBytes b f (b .outputs)) ≡ answerLengthOf b
 answer-end b f = omega (arith, length-outputs b f (b .outputs))
 
-pub length-front : (word : ℕ) (g : List ℕ) (count : ℕ) → length (fourBytes word ++ coefficientBytes g 0 count) ≡ 4 + 2 * count
+-- where output i begins
+pub numerator-start : (b : Bounds) (f : ℕ → List ℕ) (i : ℕ) → numeratorStart b i ≡ 4 + 2 * (b .denominator + 1) + length (outputBytes b f i)
+unfolding numeratorStart outputBytes
+numerator-start b f zero = omega arith
+numerator-start b f (suc i) = omega (arith, numerator-start b f i, length-output b f i)
+
+pub length-front : (word : ℕ) (g : List ℕ) (count : ℕ) → length (fourBytes word ++ coefficientBytes g count) ≡ 4 + 2 * count
 length-front word g count =
-    length-append (fourBytes word) (coefficientBytes g 0 count) ∙ ap (λ k. 4 + k) (length-coefficients g 0 count)
+    length-append (fourBytes word) (coefficientBytes g count) ∙ ap (λ k. 4 + k) (length-coefficients g count)
 
 -- the bytes are as many as paper 01's formula says
-pub length-answer : (b : Bounds) (word : ℕ) (g f : List ℕ) → length (answerBytes b word g f) ≡ answerLengthOf b
+pub length-answer : (b : Bounds) (word : ℕ) (g : List ℕ) (f : ℕ → List ℕ) → length (answerBytes b word g f) ≡ answerLengthOf b
 length-answer b word g f =
     let outputs = outputBytes b f (b .outputs) in
-    length-append (fourBytes word ++ coefficientBytes g 0 (b .denominator + 1)) outputs
+    length-append (fourBytes word ++ coefficientBytes g (b .denominator + 1)) outputs
     ∙ ap (λ k. k + length outputs) (length-front word g (b .denominator + 1)) ∙ answer-end b f
 
 -- what is read from an area that holds an answer
-pub answer-front : (b : Bounds) (word : ℕ) (g f old : List ℕ) → take (answerLengthOf b) (overwritten (answerBytes b word g f) old) ≡ answerBytes b word g f
+pub answer-front : (b : Bounds) (word : ℕ) (g : List ℕ) (f : ℕ → List ℕ) (old : List ℕ) → take (answerLengthOf b) (overwritten (answerBytes b word g f) old) ≡ answerBytes b word g f
 answer-front b word g f old =
     let new = answerBytes b word g f in
     take-at new (drop (length new) old) (answerLengthOf b) (length-answer b word g f)
 
 -- "Bytes of the answer area behind it keep their contents"
-pub answer-behind : (b : Bounds) (word : ℕ) (g f old : List ℕ) → drop (answerLengthOf b) (overwritten (answerBytes b word g f) old) ≡ drop (answerLengthOf b) old
+pub answer-behind : (b : Bounds) (word : ℕ) (g : List ℕ) (f : ℕ → List ℕ) (old : List ℕ) → drop (answerLengthOf b) (overwritten (answerBytes b word g f) old) ≡ drop (answerLengthOf b) old
 answer-behind b word g f old =
     let new = answerBytes b word g f in
     let long = length-answer b word g f in

@@ -3,5 +3,6 @@ pub mod Marks
 pub mod Splices
 pub mod Lengths
 pub mod Runs
+pub mod Reading
 pub mod Determined
 mod Examples

@@ -11,39 +11,39 @@ use Rattle.answer.specs.Bytes.{twoBytes, fourBytes, coefficientBytes, ou
 use Rattle.answer.proofs.Splices.{splice-splice, splice-behind}
 use Rattle.answer.proofs.Lengths.{length-coefficients, length-output, length-front, answer-end}
 
-pub next-coefficient : (at : ℕ) (a : List ℕ) (start k : ℕ) (old area : List ℕ) → at + 2 * k ≤ length old → area ≡ spliced at (coefficientBytes a start k) old
-    → spliced (at + 2 * k) (twoBytes (getD a (start + k) 0)) area ≡ spliced at (coefficientBytes a start (k + 1)) old
+pub next-coefficient : (at : ℕ) (a : List ℕ) (k : ℕ) (old area : List ℕ) → at + 2 * k ≤ length old → area ≡ spliced at (coefficientBytes a k) old
+    → spliced (at + 2 * k) (twoBytes (getD a k 0)) area ≡ spliced at (coefficientBytes a (k + 1)) old
 unfolding coefficientBytes
-next-coefficient at a start k old area fits written =
-    let bytes = coefficientBytes a start k in
-    let long = length-coefficients a start k in
-    rw (add-one, ← long, written) (splice-splice at bytes old (omega arith) (twoBytes (getD a (start + k) 0)))
+next-coefficient at a k old area fits written =
+    let bytes = coefficientBytes a k in
+    let long = length-coefficients a k in
+    rw (add-one, ← long, written) (splice-splice at bytes old (omega arith) (twoBytes (getD a k 0)))
 
-module _ (b : Bounds) (f : List ℕ) (i at next bound : ℕ) (place : next ≡ at + length (outputBytes b f i)) (known : bound ≡ numeratorBoundOf b i) where
+module _ (b : Bounds) (f : ℕ → List ℕ) (i at next bound : ℕ) (place : next ≡ at + length (outputBytes b f i)) (known : bound ≡ numeratorBoundOf b i) where
   pub next-place : next + 2 * (bound + 1) ≡ at + length (outputBytes b f (i + 1))
   next-place = let e = add-one i in rw e (omega (arith, length-output b f i))
 
   pub next-output : (old area more : List ℕ) → next ≤ length old → area ≡ spliced at (outputBytes b f i) old
-      → more ≡ spliced next (coefficientBytes f (i * 32) (bound + 1)) area → more ≡ spliced at (outputBytes b f (i + 1)) old
+      → more ≡ spliced next (coefficientBytes (f i) (bound + 1)) area → more ≡ spliced at (outputBytes b f (i + 1)) old
   unfolding outputBytes
   next-output old area more fits written added =
-      let bytes = coefficientBytes f (i * 32) (numeratorBoundOf b i + 1) in
+      let bytes = coefficientBytes (f i) (numeratorBoundOf b i + 1) in
       added
       ∙ rw (place, known, written)
       (splice-splice at (outputBytes b f i) old (rw place at fits) bytes ∙ ap (λ j. spliced at (outputBytes b f j) old) (sym (add-one i)))
 
 -- the word, then g, then the outputs are the whole answer
-pub whole-answer : (b : Bounds) (word : ℕ) (g f old once twice whole : List ℕ) (next : ℕ) → answerLengthOf b ≤ length old
+pub whole-answer : (b : Bounds) (word : ℕ) (g : List ℕ) (f : ℕ → List ℕ) (old once twice whole : List ℕ) (next : ℕ) → answerLengthOf b ≤ length old
     → once ≡ overwritten (fourBytes word) old
-    → twice ≡ spliced 4 (coefficientBytes g 0 (b .denominator + 1)) once
+    → twice ≡ spliced 4 (coefficientBytes g (b .denominator + 1)) once
     → next ≡ 4 + 2 * (b .denominator + 1)
     → whole ≡ spliced next (outputBytes b f (b .outputs)) twice
     → whole ≡ overwritten (answerBytes b word g f) old
 whole-answer b word g f old once twice whole next fits first second place third =
-    let front = fourBytes word ++ coefficientBytes g 0 (b .denominator + 1) in
+    let front = fourBytes word ++ coefficientBytes g (b .denominator + 1) in
     let long = length-front word g (b .denominator + 1) in
     let end = answer-end b f in
     let both : twice ≡ overwritten front old =
-    second ∙ ap (spliced 4 (coefficientBytes g 0 (b .denominator + 1))) first
-    ∙ splice-behind (fourBytes word) (coefficientBytes g 0 (b .denominator + 1)) old (omega arith) in
+    second ∙ ap (spliced 4 (coefficientBytes g (b .denominator + 1))) first
+    ∙ splice-behind (fourBytes word) (coefficientBytes g (b .denominator + 1)) old (omega arith) in
     third ∙ rw (both, place, ← long) (splice-behind front (outputBytes b f (b .outputs)) old (omega arith))

@@ -2,10 +2,12 @@
 ghost use Prim.Native.Nat.{_+_, _-_, _*_, _^_, _≤_, _<_};
 ghost use mathlib.Core.Path.{_≡_};
 ghost use lib.ListN.{length};
-ghost use Rattle.format.specs.Bounds.{answerLengthOf};
+ghost use Rattle.format.specs.Bounds.{answerLengthOf, Storable};
+ghost use Rattle.poly.specs.Vectors.{coefficientsAt};
 ghost use Rattle.answer.specs.Word.{withRow, wrongCountOf, firstWrongOf};
-ghost use Rattle.answer.specs.Bytes.{Storable, twoBytes, fourBytes, coefficientBytes, outputBytes, answerBytes, overwritten, spliced};
+ghost use Rattle.answer.specs.Bytes.{twoBytes, fourBytes, coefficientBytes, outputBytes, answerBytes, overwritten, spliced};
 use format::Bounds;
+use poly::Poly;
 
 // The word with the bit of one more row.
 pub fn with_row(word: u32, row: usize, wrong: bool) -> u32
@@ -32,14 +34,6 @@ pub fn first_wrong(word: u32) -> u32
     u32::leading_zeros(word)
 }
 
-// How many bytes an answer has.
-pub fn length(b: Bounds) -> usize
-    requires { ⌜ Storable b ⌝ }
-    ensures { λ r. ⌜ r ≡ answerLengthOf b ⌝ }
-{
-    4 + 2 * ((b.denominator + 1) + b.outputs * (b.numerator + 1))
-}
-
 fn put_word(area: &mut [u8], word: u32)
     requires { ⌜ 4 ≤ length (now area) ⌝ }
     ensures { λ _. ⌜ now (area .exit) ≡ overwritten (fourBytes word) (now (area .entry)) ⌝ }
@@ -59,42 +53,44 @@ fn put_number(area: &mut [u8], at: usize, value: u32)
     area[at + 1] = (value % 256) as u8;
 }
 
-// A run of coefficients from a place on; returns the place behind it.
-fn put_coefficients(area: &mut [u8], at: usize, a: &[u32], start: usize, count: usize) -> usize
-    requires { ⌜ (start + count ≤ length (now a)) × (at + 2 * count ≤ length (now area)) ⌝ }
+// The first coefficients of a polynomial from a place on; returns the place behind them.
+fn put_coefficients(area: &mut [u8], at: usize, a: Poly, count: usize) -> usize
+    requires { ⌜ (count ≤ 32) × (at + 2 * count ≤ length (now area)) ⌝ }
     ensures { λ r.
         ⌜ (r ≡ at + 2 * count)
-        × (now (area .exit) ≡ spliced at (coefficientBytes (now (a .entry)) start count) (now (area .entry))) ⌝ }
+        × (now (area .exit) ≡ spliced at (coefficientBytes (a .c) count) (now (area .entry))) ⌝ }
 {
     for k in 0..count {
-        put_number(area, at + 2 * k, a[start + k]);
+        put_number(area, at + 2 * k, a.c[k]);
     }
     at + 2 * count
 }
 
 // The numerators from a place on; returns the place behind them.
-fn put_outputs(area: &mut [u8], at: usize, b: Bounds, f: [u32; 128]) -> usize
-    requires { ⌜ (Storable b) × (at + length (outputBytes b f (b .outputs)) ≤ length (now area)) ⌝ }
+fn put_outputs(area: &mut [u8], at: usize, b: Bounds, f: [Poly; 4]) -> usize
+    requires { ⌜ (Storable b) × (at + length (outputBytes b (coefficientsAt f) (b .outputs)) ≤ length (now area)) ⌝ }
     ensures { λ r.
-        ⌜ (r ≡ at + length (outputBytes b f (b .outputs)))
-        × (now (area .exit) ≡ spliced at (outputBytes b f (b .outputs)) (now (area .entry))) ⌝ }
+        ⌜ (r ≡ at + length (outputBytes b (coefficientsAt f) (b .outputs)))
+        × (now (area .exit) ≡ spliced at (outputBytes b (coefficientsAt f) (b .outputs)) (now (area .entry))) ⌝ }
 {
     let n = b.outputs;
     let mut next = at;
     for i in 0..n {
-        next = put_coefficients(area, next, &f, i * 32, b.numerator_bound(i) + 1);
+        let fi = f[i];
+        next = put_coefficients(area, next, fi, b.numerator_bound(i) + 1);
     }
     next
 }
 
 // Writes the answer to the area's start and returns how many bytes it wrote.
-pub fn write(area: &mut [u8], b: Bounds, word: u32, g: [u32; 32], f: [u32; 128]) -> usize
+pub fn write(area: &mut [u8], b: Bounds, word: u32, g: Poly, f: [Poly; 4]) -> usize
     requires { ⌜ (Storable b) × (answerLengthOf b ≤ length (now area)) ⌝ }
     ensures { λ r.
-        ⌜ (r ≡ answerLengthOf b) × (now (area .exit) ≡ overwritten (answerBytes b word g f) (now (area .entry))) ⌝ }
+        ⌜ (r ≡ answerLengthOf b)
+        × (now (area .exit) ≡ overwritten (answerBytes b word (g .c) (coefficientsAt f)) (now (area .entry))) ⌝ }
 {
     put_word(area, word);
     let dg = b.denominator;
-    let next = put_coefficients(area, 4, &g, 0, dg + 1);
+    let next = put_coefficients(area, 4, g, dg + 1);
     put_outputs(area, next, b, f)
 }

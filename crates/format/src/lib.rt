@@ -1,7 +1,6 @@
 // What a job's header fixes, and what a call answers.
-ghost use Prim.Native.Nat.{ℕ, _+_, _*_};
 ghost use mathlib.Core.Path.{_≡_};
-ghost use Rattle.format.specs.Bounds.{numeratorBoundOf, answerLengthOf};
+ghost use Rattle.format.specs.Bounds.{numeratorBoundOf, answerLengthOf, Storable};
 ghost use Rattle.format.specs.Outcomes.{numberOf, refusalOf, rowOf, bytesOf, wrongOf};
 use field::Prime;
 
@@ -21,6 +20,14 @@ impl Bounds {
         ensures { λ r. ⌜ r ≡ numeratorBoundOf self i ⌝ }
     {
         self.numerator
+    }
+
+    // How many bytes an answer has.
+    pub fn answer_length(self) -> usize
+        requires { ⌜ Storable self ⌝ }
+        ensures { λ r. ⌜ r ≡ answerLengthOf self ⌝ }
+    {
+        4 + 2 * ((self.denominator + 1) + self.outputs * (self.numerator + 1))
     }
 }
 

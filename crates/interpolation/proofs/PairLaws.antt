@@ -102,7 +102,7 @@ pub smaller-second : (s : Pairs) → s .second .e < s .first .e → s .second �
 unfolding smallerOf
 smaller-second s l = simp (lt-leb _ _ l)
 
-bounded-one : (p : ℕ) → 1 < p → Bounded p 1 (onePoly .c)
+pub bounded-one : (p : ℕ) → 1 < p → Bounded p 1 (onePoly .c)
 bounded-one p l = record { residues = low; within = past }
   where
     low : (k : ℕ) → at (onePoly .c) k < p

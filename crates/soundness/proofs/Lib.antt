@@ -1,1 +1,5 @@
 pub mod Interpolation
+pub mod Sizes
+pub mod Fraction
+pub mod Candidates
+pub mod Verdicts

@@ -10,14 +10,14 @@ use Rattle.answer.proofs.put_coefficients.Statement.{statement}
 use Rattle.answer.proofs.put_coefficients.Tie as tie
 
 abbrev Inv-loop : tie.InvT-loop
-Inv-loop area₀ at a start count k₀ area k = (k ≤ count) × (length area ≡ length area₀) × (area ≡ spliced at (coefficientBytes a start k) area₀)
+Inv-loop area₀ at count a k₀ area k = (k ≤ count) × (length area ≡ length area₀) × (area ≡ spliced at (coefficientBytes (a .c) k) area₀)
 
 abbrev μ-loop : tie.MeasureT-loop
-μ-loop area₀ at a start count k₀ area k = count - k
+μ-loop area₀ at count a k₀ area k = count - k
 
 loop-holds : tie.Need-loop-holds Inv-loop μ-loop
 unfolding coefficientBytes
-loop-holds c = let g = c .before .before .args in (search needs, refl, sym (splice-none (g .at) (g .area .now)))
+loop-holds c = let g = c .before .args in (search needs, refl, sym (splice-none (g .at) (g .area .now)))
 
 mul-put-number : tie.Need-mul-put-number Inv-loop μ-loop
 mul-put-number c = omega arith
@@ -25,14 +25,11 @@ mul-put-number c = omega arith
 add-put-number : tie.Need-add-put-number Inv-loop μ-loop
 add-put-number c = omega arith
 
-add-put-number-2 : tie.Need-add-put-number-2 Inv-loop μ-loop
-add-put-number-2 c = omega arith
-
 mul-put-number-2 : tie.Need-mul-put-number-2 Inv-loop μ-loop
 mul-put-number-2 c = omega arith
 
-shared-slice-read-put-number : tie.Need-shared-slice-read-put-number Inv-loop μ-loop
-shared-slice-read-put-number c = omega arith
+element-copy-out-put-number : tie.Need-element-copy-out-put-number Inv-loop μ-loop
+element-copy-out-put-number c = omega arith
 
 put-number-requires : tie.Need-put-number-requires Inv-loop μ-loop
 put-number-requires c κs = omega arith
@@ -46,12 +43,12 @@ loop-less c = omega arith
 loop-again : tie.Need-loop-again Inv-loop μ-loop
 loop-again c =
     let s = c .before .before .before .before .before .before in
-    let g = s .before .before .before .args in
+    let g = s .before .before .args in
     let r = c .before .before .put-number in
     let room : g .at + 2 * s .loop .k ≤ length (g .area .now) = omega arith in (
       omega arith,
       r .kept .0 ∙ s .loop .inv .1,
-      r .ensures ∙ next-coefficient (g .at) (g .a .now) (g .start) (s .loop .k) (g .area .now) (s .loop .area) room (s .loop .inv .2),
+      r .ensures ∙ next-coefficient (g .at) (g .t3 .c) (s .loop .k) (g .area .now) (s .loop .area) room (s .loop .inv .2),
     )
 
 mul-result : tie.Need-mul-result Inv-loop μ-loop
@@ -66,9 +63,9 @@ same-length c = c .before .loop .inv .1
 returns : tie.Need-returns Inv-loop μ-loop
 returns c =
     let s = c .before in
-    let g = s .before .before .before .args in
+    let g = s .before .before .args in
     let all : s .loop .k ≡ g .count = omega arith in
-    (refl, s .loop .inv .2 ∙ ap (λ k. spliced (g .at) (coefficientBytes (g .a .now) (g .start) k) (g .area .now)) all)
+    (refl, s .loop .inv .2 ∙ ap (λ k. spliced (g .at) (coefficientBytes (g .t3 .c) k) (g .area .now)) all)
 
 pub put-coefficients-spec : {M : Type 1} → statement M
 put-coefficients-spec =
@@ -79,9 +76,8 @@ put-coefficients-spec =
     loop-holds
     mul-put-number
     add-put-number
-    add-put-number-2
     mul-put-number-2
-    shared-slice-read-put-number
+    element-copy-out-put-number
     put-number-requires
     add-k
     loop-less

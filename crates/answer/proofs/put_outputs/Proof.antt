@@ -1,8 +1,10 @@
 use Prim.Native.Nat.{_+_, _-_, _≤_}
 use mathlib.Core.Path.{_≡_, refl, sym, ap, _∙_}
+use mathlib.Core.List.{[]}
 use native.Mathlib.Omega.{arith}
-use lib.ListN.{length}
+use lib.ListN.{length, getD}
 use borrow.Author.Needs.{needs}
+use Rattle.poly.specs.Vectors.{coefficientsAt}
 use Rattle.answer.specs.Bytes.{outputBytes, spliced}
 use Rattle.answer.proofs.Splices.{splice-none}
 use Rattle.answer.proofs.Lengths.{output-within}
@@ -12,7 +14,8 @@ use Rattle.answer.proofs.put_outputs.Tie as tie
 
 abbrev Inv-loop : tie.InvT-loop
 Inv-loop area₀ at b f n next₀ i₀ area next i =
-    (i ≤ n) × (length area ≡ length area₀) × (next ≡ at + length (outputBytes b f i)) × (area ≡ spliced at (outputBytes b f i) area₀)
+    (i ≤ n) × (length area ≡ length area₀) × (next ≡ at + length (outputBytes b (coefficientsAt f) i))
+    × (area ≡ spliced at (outputBytes b (coefficientsAt f) i) area₀)
 
 abbrev μ-loop : tie.MeasureT-loop
 μ-loop area₀ at b f n next₀ i₀ area next i = n - i
@@ -21,11 +24,11 @@ loop-holds : tie.Need-loop-holds Inv-loop μ-loop
 unfolding outputBytes
 loop-holds c = let g = c .before .args in (search needs, refl, omega arith, sym (splice-none (g .at) (g .area .now)))
 
-slice-aggregate-put-coefficients : tie.Need-slice-aggregate-put-coefficients Inv-loop μ-loop
-slice-aggregate-put-coefficients c = search needs
+mul-fi : tie.Need-mul-fi Inv-loop μ-loop
+mul-fi c = omega arith
 
-mul-put-coefficients : tie.Need-mul-put-coefficients Inv-loop μ-loop
-mul-put-coefficients c = omega arith
+array-copy-out-fi : tie.Need-array-copy-out-fi Inv-loop μ-loop
+array-copy-out-fi c = omega arith
 
 numerator-bound-requires : tie.Need-numerator-bound-requires Inv-loop μ-loop
 numerator-bound-requires c κs = search needs
@@ -41,8 +44,7 @@ put-coefficients-requires c κs =
     let s = c .before .before .before .before in
     let g = s .before .before in
     let low = g .pre .0 .numerators-low (s .loop .i) in
-    let within = output-within (g .args .b) (g .args .t4) (s .loop .i) (g .args .b .outputs) (omega arith) in
-    let long : length (g .args .t4) ≡ 128 = search needs in
+    let within = output-within (g .args .b) (coefficientsAt (g .args .t4)) (s .loop .i) (g .args .b .outputs) (omega arith) in
     (omega arith, omega arith)
 
 add-i : tie.Need-add-i Inv-loop μ-loop
@@ -56,14 +58,17 @@ loop-again c =
     let s = c .before .before .before .before .before .before .before in
     let g = s .before .before .args in
     let i = s .loop .i in
+    let f = coefficientsAt (g .t4) in
     let r = c .before .before .put-coefficients in
     let bound = c .before .before .before .numerator-bound in
-    let within = output-within (g .b) (g .t4) i (g .b .outputs) (omega arith) in
-    let room : s .loop .next ≤ length (g .area .now) = omega arith in (
+    let within = output-within (g .b) f i (g .b .outputs) (omega arith) in
+    let room : s .loop .next ≤ length (g .area .now) = omega arith in
+    let four : length (g .t4) ≡ 4 = search needs in
+    let few = s .before .before .pre .0 .few in (
       omega arith,
       r .kept .0 ∙ s .loop .inv .1,
-      r .ensures .0 ∙ next-place (g .b) (g .t4) i (g .at) (s .loop .next) (bound .result) (s .loop .inv .2) (bound .ensures),
-      next-output (g .b) (g .t4) i (g .at) (s .loop .next) (bound .result) (s .loop .inv .2) (bound .ensures)
+      r .ensures .0 ∙ next-place (g .b) f i (g .at) (s .loop .next) (bound .result) (s .loop .inv .2) (bound .ensures),
+      next-output (g .b) f i (g .at) (s .loop .next) (bound .result) (s .loop .inv .2) (bound .ensures)
           (g .area .now) (s .loop .area) (r .last .0) room (s .loop .inv .3) (r .ensures .1),
     )
 
@@ -75,8 +80,8 @@ returns c =
     let s = c .before in
     let g = s .before .before .args in
     let all : s .loop .i ≡ g .b .outputs = omega arith in (
-      s .loop .inv .2 ∙ ap (λ i. g .at + length (outputBytes (g .b) (g .t4) i)) all,
-      s .loop .inv .3 ∙ ap (λ i. spliced (g .at) (outputBytes (g .b) (g .t4) i) (g .area .now)) all,
+      s .loop .inv .2 ∙ ap (λ i. g .at + length (outputBytes (g .b) (coefficientsAt (g .t4)) i)) all,
+      s .loop .inv .3 ∙ ap (λ i. spliced (g .at) (outputBytes (g .b) (coefficientsAt (g .t4)) i) (g .area .now)) all,
     )
 
 pub put-outputs-spec : {M : Type 1} → statement M
@@ -86,8 +91,8 @@ put-outputs-spec =
     Inv-loop
     μ-loop
     loop-holds
-    slice-aggregate-put-coefficients
-    mul-put-coefficients
+    mul-fi
+    array-copy-out-fi
     numerator-bound-requires
     add-put-coefficients
     put-coefficients-requires

@@ -2,18 +2,16 @@ use Prim.Native.Nat.{_+_}
 use mathlib.Core.Path.{ap, _∙_}
 use native.Mathlib.Omega.{arith}
 use lib.ListN.{length}
+use borrow.Author.Needs.{needs}
+use Rattle.poly.specs.Vectors.{coefficientsAt}
 use Rattle.answer.specs.Bytes.{outputBytes}
 use Rattle.answer.proofs.Lengths.{answer-end}
 use Rattle.answer.proofs.Runs.{whole-answer}
-use borrow.Author.Needs.{needs}
 use Rattle.answer.proofs.write.Statement.{statement}
 use Rattle.answer.proofs.write.Tie as tie
 
 put-word-requires : tie.Need-put-word-requires
 put-word-requires c κs = search needs
-
-slice-aggregate-put-coefficients : tie.Need-slice-aggregate-put-coefficients
-slice-aggregate-put-coefficients c = search needs
 
 add-put-coefficients : tie.Need-add-put-coefficients
 add-put-coefficients c = search needs
@@ -24,8 +22,8 @@ put-coefficients-requires c κs = search needs
 put-outputs-requires : tie.Need-put-outputs-requires
 put-outputs-requires c κs =
     let run = c .before .before .before in
-    let start = run .before .before .before .before .before .before .before .before in
-    (start .pre .0, omega (arith, answer-end (start .args .b) (start .args .f)))
+    let start = run .before .before .before .before .before .before .before in
+    (start .pre .0, omega (arith, answer-end (start .args .b) (coefficientsAt (start .args .f))))
 
 same-length : tie.Need-same-length
 same-length c = search needs
@@ -34,12 +32,13 @@ returns : tie.Need-returns
 returns c =
     let outputs = c .before .before .put-outputs in
     let run = c .before .before .before .before .before .before in
-    let head = run .before .before .before .before .before in
+    let head = run .before .before .before .before in
     let start = head .before .before .before in
     let g = start .args in
+    let f = coefficientsAt (g .f) in
     let place = run .put-coefficients .ensures .0 in (
-      outputs .ensures .0 ∙ ap (λ next. next + length (outputBytes (g .b) (g .f) (g .b .outputs))) place ∙ answer-end (g .b) (g .f),
-      whole-answer (g .b) (g .word) (g .t4) (g .f) (g .area .now) (head .put-word .last .0) (run .put-coefficients .last .0) (outputs .last .0)
+      outputs .ensures .0 ∙ ap (λ next. next + length (outputBytes (g .b) f (g .b .outputs))) place ∙ answer-end (g .b) f,
+      whole-answer (g .b) (g .word) (g .g .c) f (g .area .now) (head .put-word .last .0) (run .put-coefficients .last .0) (outputs .last .0)
           (run .put-coefficients .result) (start .pre .1) (head .put-word .ensures) (run .put-coefficients .ensures .1) place (outputs .ensures .1),
     )
 
@@ -48,7 +47,6 @@ write-spec =
     tie.close
     (tie.spec
     put-word-requires
-    slice-aggregate-put-coefficients
     add-put-coefficients
     put-coefficients-requires
     put-outputs-requires

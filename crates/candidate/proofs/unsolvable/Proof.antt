@@ -1,0 +1,15 @@
+use Rattle.candidate.specs.Candidates.{unsolvableCandidate}
+use Rattle.candidate.proofs.CandidateLaws.{candidate-is}
+use borrow.Author.Needs.{needs}
+use Rattle.candidate.proofs.unsolvable.Statement.{statement}
+use Rattle.candidate.proofs.unsolvable.Tie as tie
+
+zero-requires : tie.Need-zero-requires
+zero-requires c κs = search needs
+
+returns : tie.Need-returns
+unfolding unsolvableCandidate
+returns c = candidate-is _ _ _ (c .zero .ensures) (c .zero .ensures)
+
+pub unsolvable-spec : {M : Type 1} → statement M
+unsolvable-spec = tie.close (tie.spec zero-requires returns)

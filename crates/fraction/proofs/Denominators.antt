@@ -1,0 +1,63 @@
+-- Neither the greatest common divisor nor the denominator in lowest terms is zero, where the denominator before is not.
+use mathlib.Core.Path.{_≡_, refl, sym, ap, _∙_}
+use mathlib.Core.List.{List}
+use Prim.Native.Nat.{ℕ, zero, suc, _-_, _<_}
+use native.Mathlib.Omega.{arith}
+use Rattle.algebra.proofs.Series.{mulS, mulS-null}
+use Rattle.field.specs.Residues.{reciprocalOf}
+use Rattle.field.proofs.Primality.{IsPrime}
+use Rattle.field.proofs.PrimeField.{residueRing}
+use Rattle.poly.specs.Coefficients.{at}
+use Rattle.poly.specs.Operations.{lengthOf, scaledAt, scaledOf}
+use Rattle.poly.proofs.Lists.{at-tabulate}
+use Rattle.poly.proofs.Lengths.{length-past}
+use Rattle.poly_meaning.proofs.Degrees.{null-length, length-means-null}
+use Rattle.euclid.specs.Division.{quotientOf, degreeOf, leadingReciprocal}
+use Rattle.euclid.specs.Euclid.{gcdOf}
+use Rattle.euclid.proofs.Leading.{Stored, stored-bounded, bounded-stored, length-stored, divisor-of, leading-inverts}
+use Rattle.euclid.proofs.Steps.{bounded-quotient, length-quotient}
+use Rattle.euclid.proofs.Euclid.{gcd-stored, gcd-zero}
+use Rattle.euclid_meaning.proofs.Division.{exact-quotient}
+use Rattle.euclid_meaning.proofs.Euclid.{gcd-means}
+use Rattle.fraction.specs.LowestTerms.{unitOf, denominatorOf}
+
+-- the unit that the code computes from the quotient h and its length
+pub unit-is : (p : ℕ) {k n : ℕ} (a b : List ℕ) {h : List ℕ} → h ≡ quotientOf p b (gcdOf p a b) → n ≡ lengthOf h → k ≡ reciprocalOf p (at h (n - 1)) → k ≡ unitOf p a b
+unfolding unitOf leadingReciprocal degreeOf
+unit-is p a b {h} eh en ek = ek ∙ ap (λ (t : ℕ). reciprocalOf p (at h (t - 1))) en ∙ ap (λ (t : List ℕ). reciprocalOf p (at t (lengthOf t - 1))) eh
+
+-- b divided by the greatest common divisor of a and b
+module _ {p : ℕ} (P : IsPrime p) {a b : List ℕ} (sa : Stored p a) (sb : Stored p b) (nonzero : lengthOf b ≡ 0 → ⊥) where
+  pub divisor-nonzero : lengthOf (gcdOf p a b) ≡ 0 → ⊥
+  divisor-nonzero z = nonzero (gcd-zero P sa sb z .1)
+
+  pub stored-quotient : Stored p (quotientOf p b (gcdOf p a b))
+  stored-quotient =
+      let D = divisor-of P (gcd-stored P sa sb) divisor-nonzero in
+      bounded-stored (bounded-quotient D (length-stored sb) (stored-bounded sb) (sb .size))
+      (length-quotient D (length-stored sb) (stored-bounded sb) (sb .size))
+
+  pub quotient-nonzero : lengthOf (quotientOf p b (gcdOf p a b)) ≡ 0 → ⊥
+  quotient-nonzero z =
+      let D = divisor-of P (gcd-stored P sa sb) divisor-nonzero in
+      let C = gcd-means p P sa sb in
+      let e = C .0 .right-multiple ∙ ap (λ f. mulS (residueRing p P) f (C .0 .g')) (C .1) in
+      let q = exact-quotient p P D (length-stored sb) (stored-bounded sb) (sb .size) (C .0 .g') (C .0 .g'-polynomial) e .0 in
+      nonzero (null-length p P (stored-bounded sb) (C .0 .right-multiple ∙ ap (mulS (residueRing p P) (C .0 .divisor))
+      (sym q ∙ length-means-null p P (stored-bounded stored-quotient) z) ∙ mulS-null (residueRing p P) (C .0 .divisor)))
+
+  -- the denominator's leading coefficient is 1
+  pub denominator-top : at (denominatorOf p a b) (lengthOf (quotientOf p b (gcdOf p a b)) - 1) ≡ 1
+  unfolding denominatorOf unitOf scaledOf scaledAt
+  denominator-top =
+      let D = divisor-of P stored-quotient quotient-nonzero in
+      let fits = D .fits in
+      let positive = D .positive in
+      at-tabulate 32 _ _ (omega arith) ∙ leading-inverts D
+
+  pub denominator-nonzero : 0 < lengthOf (denominatorOf p a b)
+  denominator-nonzero = by-length (lengthOf (denominatorOf p a b)) refl
+    where
+      by-length : (n : ℕ) → lengthOf (denominatorOf p a b) ≡ n → 0 < n
+      by-length (suc n) e = omega arith
+      by-length zero e = let z = length-past (denominatorOf p a b) (lengthOf (quotientOf p b (gcdOf p a b)) - 1) (omega arith) in let t = denominator-top in absurd (omega arith)

@@ -1,0 +1,133 @@
+-- The fraction that the code makes is phi / psi in lowest terms.
+use mathlib.Core.Path.{_≡_, refl, sym, _∙_, ap, ap₂, subst}
+use mathlib.Core.Logic.{_≢_}
+use mathlib.Core.List.{List}
+use Prim.Native.Nat.{ℕ, suc, _+_, _-_, _%_, _≤_, _<_}
+use native.Mathlib.Nat.{mod-eq-of-lt}
+use native.Mathlib.Omega.{arith}
+use Rattle.algebra.proofs.Ring.{Ring}
+use Rattle.algebra.proofs.Field.{Field}
+use Rattle.algebra.proofs.Series.{Series, nullS, scaleS, mulS}
+use Rattle.algebra.proofs.Degree.{HasDegree}
+use Rattle.algebra.proofs.Euclid.{CommonDivisor}
+use Rattle.algebra.proofs.LowestTerms.{LowestTerms, lowest-terms-of, monic-degree}
+use Rattle.field.specs.Residues.{reciprocalOf}
+use Rattle.field.proofs.Primality.{IsPrime}
+use Rattle.field.proofs.PrimeField.{Residue, residue, invR, residueRing, residueField}
+use Rattle.poly.specs.Coefficients.{at, Bounded}
+use Rattle.poly.specs.Operations.{lengthOf, scaledOf}
+use Rattle.poly.proofs.Lists.{bounded-mono}
+use Rattle.poly.proofs.Bounds.{bounded-scaled}
+use Rattle.poly_meaning.proofs.Series.{series, series-at, scaled-means}
+use Rattle.poly_meaning.proofs.Degrees.{length-means, degree-length, null-length}
+use Rattle.euclid.specs.Division.{quotientOf, degreeOf, leadingReciprocal}
+use Rattle.euclid.specs.Euclid.{gcdOf}
+use Rattle.euclid.proofs.Leading.{Stored, stored-bounded, length-stored, Divisor, divisor-of}
+use Rattle.euclid.proofs.Euclid.{gcd-stored, stored-quotient}
+use Rattle.euclid_meaning.proofs.Division.{exact-quotient}
+use Rattle.euclid_meaning.proofs.Euclid.{gcd-means}
+use Rattle.fraction.specs.LowestTerms.{unitOf, numeratorOf, denominatorOf}
+use Rattle.fraction.proofs.Denominators.{divisor-nonzero, quotient-nonzero}
+
+-- what the two lists of the fraction are
+pub record FractionMeans (p : ℕ) (P : IsPrime p) (phi psi : List ℕ) : Type 0 where
+  pub terms : LowestTerms (residueField p P) (series p P phi) (series p P psi)
+  pub numerator : terms .numerator ≡ series p P (numeratorOf p phi psi)
+  pub denominator : terms .denominator ≡ series p P (denominatorOf p phi psi)
+  pub numerator-bounded : Bounded p 32 (numeratorOf p phi psi)
+  pub denominator-bounded : Bounded p 32 (denominatorOf p phi psi)
+  pub denominator-length : lengthOf (denominatorOf p phi psi) ≡ suc (terms .degree)
+
+module _ (p : ℕ) (P : IsPrime p) where
+  abbrev R : Ring
+  R = residueRing p P
+
+  abbrev F : Field
+  F = residueField p P
+
+  -- the reciprocal of a residue is the residue of the reciprocal
+  inverse-means : (n : ℕ) → n < p → invR p P (residue p P n) ≡ residue p P (reciprocalOf p n)
+  unfolding invR residue
+  inverse-means n l = ap (λ x. residue p P (reciprocalOf p x)) (mod-eq-of-lt l)
+
+  module _ {phi psi : List ℕ} (sa : Stored p phi) (sb : Stored p psi) (nonzero : lengthOf psi ≡ 0 → ⊥) where
+    abbrev c : List ℕ
+    c = gcdOf p phi psi
+
+    abbrev h : List ℕ
+    h = quotientOf p psi c
+
+    C : CommonDivisor F (series p P phi) (series p P psi)
+    C = gcd-means p P sa sb .0
+
+    same : C .divisor ≡ series p P c
+    unfolding C
+    same = gcd-means p P sa sb .1
+
+    D : Divisor p c (lengthOf c)
+    D = divisor-of P (gcd-stored P sa sb) (divisor-nonzero P sa sb nonzero)
+
+    -- both quotients are the cofactors
+    numerator-cofactor : series p P (quotientOf p phi c) ≡ C .f'
+    numerator-cofactor =
+        exact-quotient p P D (length-stored sa) (stored-bounded sa) (sa .size) (C .f') (C .f'-polynomial)
+        (C .left-multiple ∙ ap (λ d. mulS R d (C .f')) same) .0
+
+    denominator-cofactor : series p P h ≡ C .g'
+    denominator-cofactor =
+        exact-quotient p P D (length-stored sb) (stored-bounded sb) (sb .size) (C .g') (C .g'-polynomial)
+        (C .right-multiple ∙ ap (λ d. mulS R d (C .g')) same) .0
+
+    sh : Stored p h
+    sh = stored-quotient P sb (gcd-stored P sa sb) (divisor-nonzero P sa sb nonzero)
+
+    sq : Stored p (quotientOf p phi c)
+    sq = stored-quotient P sa (gcd-stored P sa sb) (divisor-nonzero P sa sb nonzero)
+
+    psi-nonnull : series p P psi ≢ nullS R
+    psi-nonnull e = nonzero (null-length p P (stored-bounded sb) e)
+
+    m : ℕ
+    m = degreeOf h
+
+    length-h : lengthOf h ≡ suc m
+    unfolding m degreeOf
+    length-h = let positive = divisor-of P sh (quotient-nonzero P sa sb nonzero) .positive in omega arith
+
+    degree-h : HasDegree F (C .g') m
+    degree-h = subst (λ f. HasDegree F f m) denominator-cofactor (length-means p P (stored-bounded sh) m length-h)
+
+    -- the leading coefficient of the cofactor, and its reciprocal
+    k : Residue p P
+    k = residue p P (at h m)
+
+    k-is : k ≡ C .g' m
+    unfolding k
+    k-is = sym (series-at p P h m) ∙ ap (λ f. f m) denominator-cofactor
+
+    unit-means : residue p P (unitOf p phi psi) ≡ invR p P k
+    unfolding unitOf leadingReciprocal k m
+    unit-means = sym (inverse-means (at h (degreeOf h)) (sh .residues (degreeOf h)))
+
+    scaled-by-unit : (a : List ℕ) (s : Series R) → Stored p a → series p P a ≡ s
+        → scaleS R (invR p P k) s ≡ series p P (scaledOf p (unitOf p phi psi) a)
+    scaled-by-unit a s st e =
+        sym (scaled-means p P (unitOf p phi psi) (stored-bounded st) (length-stored st) ∙ ap₂ (scaleS R) unit-means e)
+
+    bounded-by-unit : (a : List ℕ) → Stored p a → Bounded p 32 (scaledOf p (unitOf p phi psi) a)
+    bounded-by-unit a st = bounded-mono (bounded-scaled (stored-bounded st) (unitOf p phi psi) (let two = P .two in omega arith)) (length-stored st)
+
+    W : LowestTerms F (series p P phi) (series p P psi)
+    W = lowest-terms-of F (series p P phi) (series p P psi) C psi-nonnull m degree-h k k-is
+
+    pub fraction-means : FractionMeans p P phi psi
+    unfolding W numeratorOf denominatorOf
+    fraction-means = record {
+      terms = W;
+      numerator = scaled-by-unit (quotientOf p phi c) (C .f') sq numerator-cofactor;
+      denominator = scaled-by-unit h (C .g') sh denominator-cofactor;
+      numerator-bounded = bounded-by-unit (quotientOf p phi c) sq;
+      denominator-bounded = bounded-by-unit h sh;
+      denominator-length = degree-length p P (bounded-by-unit h sh) m
+          (subst (λ f. HasDegree F f m) (scaled-by-unit h (C .g') sh denominator-cofactor) (monic-degree F (W .denominator) m (W .monic)));
+    }

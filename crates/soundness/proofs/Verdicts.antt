@@ -1,0 +1,129 @@
+-- All outputs: after the last one the code holds the method's candidate, or there is no answer.
+use mathlib.Core.Path.{_≡_, refl, sym, _∙_, ap, ap₂, subst}
+use mathlib.Core.Logic.{inl, inr}
+use mathlib.Core.Bool.{Bool, true, false, cond}
+use mathlib.Core.List.{List}
+use Prim.Native.Nat.{ℕ, zero, suc, _+_, _-_, _*_, _%_, _≤_, _<_}
+use native.Mathlib.Nat.{mod-lt}
+use native.Mathlib.Decide.{decLt, ℕ-discrete}
+use native.Mathlib.Omega.{arith}
+use lib.Dec.{ltb, eqb}
+use lib.ListN.{length}
+use borrow.Author.Tests.{lt-ltb, le-ltb, eq-eqb, ne-eqb}
+use Rattle.algebra.proofs.Value.{value}
+use Rattle.method.proofs.Interpolation.{Condition}
+use Rattle.method.proofs.Solution.{Solves}
+use Rattle.method.proofs.CrossProduct.{conditions}
+use Rattle.method.proofs.Outputs.{none-if-psi-null}
+use Rattle.field.proofs.PrimeField.{residue, residue-mul}
+use Rattle.format.specs.declared.Bounds.{Bounds}
+use Rattle.poly.specs.Coefficients.{at, Bounded}
+use Rattle.poly.specs.Operations.{valueOf, lengthOf}
+use Rattle.poly.proofs.Lists.{at-tabulate, at-past, length-tabulate}
+use Rattle.poly_meaning.proofs.Series.{residue-mod, value-means-bounded}
+use Rattle.poly_meaning.proofs.Degrees.{length-means-null}
+use Rattle.interpolation.specs.declared.Pair.{Pair}
+use Rattle.interpolation.specs.Pairs.{PairBounded, choose, solutionOf}
+use Rattle.euclid.proofs.Leading.{Stored}
+use Rattle.candidate.specs.declared.Candidate.{Candidate}
+use Rattle.candidate.specs.Candidates.{primeOf, columnAt, columnOf, withFraction, slackOf, nextOf, candidateAfter}
+use Rattle.candidate.proofs.CandidateLaws.{denominator-low}
+use Rattle.soundness.proofs.Interpolation.{conditionAt, solution-means}
+use Rattle.soundness.proofs.Sizes.{Whole, whole-solution}
+use Rattle.soundness.proofs.Fraction.{FractionMeans, fraction-means}
+use Rattle.soundness.proofs.Candidates.{P, R, F, poly, evaluation, problem, Usable, ample, capacity, Good, Verdict, no-answer, start-verdict, extended-verdict}
+
+module _ (b : Bounds) (points values : List ℕ) (U : Usable b points values) where
+  abbrev p : ℕ
+  p = primeOf b
+
+  positive : 0 < p
+  positive = let two = P b .two in omega arith
+
+  -- the right-hand sides of output i's conditions
+  module _ (i : ℕ) (c : Candidate) (G : Good b points values U i c) where
+    abbrev z : List ℕ
+    z = columnOf b points values i (c .g .c)
+
+    z-at : (l : ℕ) → l < b .rows → at z l ≡ valueOf p (at points l) (c .g .c) * at values (l * 4 + i) % p
+    unfolding columnOf columnAt
+    z-at l h = at-tabulate 32 _ l (let n = U .sized .rows in omega arith) ∙ rw (lt-ltb l (b .rows) h)
+
+    z-below : (l : ℕ) → at z l < p
+    unfolding columnOf columnAt
+    z-below l = by (decLt l 32) (decLt l (b .rows))
+      where
+        by : Dec (l < 32) → Dec (l < b .rows) → at z l < p
+        by (no large) d = let e = at-past z l (let n = length-tabulate 32 (columnAt p (b .rows) points values i (c .g .c)) in omega arith) in let h = positive in omega arith
+        by (yes small) (yes row) = subst (λ t. t < p) (sym (z-at l row)) (mod-lt _ positive)
+        by (yes small) (no none) =
+            let past : b .rows ≤ l = omega arith in
+            let e : at z l ≡ 0 = at-tabulate 32 _ l small ∙ rw (le-ltb l (b .rows) past) in
+            let h = positive in
+            omega arith
+
+    -- they are those of the method
+    z-means : (l : ℕ) → l < b .rows
+        → residue p (P b) (at z l) ≡ conditions (F b) 32 (poly b (c .g .c)) i (evaluation b points values) l .z
+    z-means l h =
+        ap (residue p (P b)) (z-at l h) ∙ residue-mod p (P b) _ ∙ sym (residue-mul p (P b) _ _)
+        ∙ ap (λ t. R b .mul t (residue p (P b) (at values (l * 4 + i))))
+        (value-means-bounded p (P b) 32 (at points l) (G .fitting .denominator) (let n = denominator-low (U .sized) in omega arith))
+
+    abbrev s : Pair
+    s = solutionOf p points z (b .rows - 1 - slackOf b) (slackOf b) (b .rows)
+
+    enough : b .rows ≡ (b .rows - 1 - slackOf b) + slackOf b + 1
+    enough = let e = U .sized .enough 0 in omega arith
+
+    bounded : PairBounded p (b .rows + 1) s
+    bounded = solution-means p (P b) (b .rows - 1 - slackOf b) (slackOf b) points z (U .table .points-below) z-below (b .rows) (U .sized .rows) enough .0
+
+    solves : Solves (R b) (ample b points values U .A) (slackOf b) 32 (conditions (F b) 32 (poly b (c .g .c)) i (evaluation b points values)) (b .rows)
+        (poly b (s .a .c)) (poly b (s .b .c))
+    unfolding ample
+    solves =
+        let S = solution-means p (P b) (b .rows - 1 - slackOf b) (slackOf b) points z (U .table .points-below) z-below (b .rows) (U .sized .rows) enough .1 in
+        record {
+          phi-below = S .phi-below;
+          psi-below = S .psi-below;
+          meets = λ l h. S .meets l h ∙ ap (λ t. R b .mul t (value (R b) 32 (poly b (s .b .c)) (residue p (P b) (at points l)))) (z-means l h);
+          not-both-null = S .not-both-null;
+        }
+
+    stored-left : Stored p (s .a .c)
+    stored-left = record { size = whole-solution p points z _ _ (b .rows) .left; residues = bounded .left .residues }
+
+    stored-right : Stored p (s .b .c)
+    stored-right = record { size = whole-solution p points z _ _ (b .rows) .right; residues = bounded .right .residues }
+
+    module _ (li : i < b .outputs) (sc : c .solvable ≡ true) where
+      fraction-verdict : Dec (lengthOf (s .b .c) ≡ 0) → Verdict b points values U (suc i) (withFraction b i s c)
+      unfolding withFraction
+      fraction-verdict (yes null) =
+          rw (eq-eqb _ _ null)
+          (no-answer b points values U (suc i)
+          (none-if-psi-null (F b) 32 (problem b points values) (ample b points values U) (capacity b points values U) li (G .candidate) solves
+          (length-means-null p (P b) (bounded .right) null)))
+      fraction-verdict (no nonzero) =
+          let M = fraction-means p (P b) stored-left stored-right nonzero in
+          rw (ne-eqb _ _ nonzero)
+          (extended-verdict b points values U li sc G solves (M .terms) (M .numerator) (M .denominator) (M .numerator-bounded) (M .denominator-bounded)
+          (M .denominator-length))
+
+      next-verdict : Verdict b points values U (suc i) (nextOf b points values i c)
+      unfolding nextOf
+      next-verdict = fraction-verdict (ℕ-discrete (lengthOf (s .b .c)) 0)
+
+  -- after each output
+  pub verdict : (i : ℕ) → i ≤ b .outputs → Verdict b points values U i (candidateAfter b points values i)
+  unfolding candidateAfter
+  verdict zero l = start-verdict b points values U
+  verdict (suc i) l = by (candidateAfter b points values i) (verdict i (omega arith))
+    where
+      by : (c : Candidate) → Verdict b points values U i c
+          → Verdict b points values U (suc i) (choose (c .solvable) (nextOf b points values i c) c)
+      by c (inl G) =
+          subst (λ t. Verdict b points values U (suc i) (choose t (nextOf b points values i c) c)) (sym (G .0)) (next-verdict i c (G .1) (omega arith) (G .0))
+      by c (inr none) =
+          subst (λ t. Verdict b points values U (suc i) (choose t (nextOf b points values i c) c)) (sym (none .0)) (inr none)
