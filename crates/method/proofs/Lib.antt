@@ -6,5 +6,6 @@ pub mod Problem
 pub mod CrossProduct
 pub mod Outputs
 pub mod Decision
+pub mod Tables
 pub mod Enlargement
 pub mod Witness

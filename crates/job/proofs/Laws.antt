@@ -1,0 +1,82 @@
+-- What paper 01 says of jobs, for every job.
+use mathlib.Core.Bool.{false, not}
+use mathlib.Core.List.{List}
+use mathlib.Core.Logic.{_⊎_, inl, inr}
+use mathlib.Core.Path.{_≡_, refl, sym, ap, _∙_}
+use Prim.Native.Nat.{ℕ, _+_, _<_, _≤_}
+use native.Mathlib.Nat.{mul-le-mul-right}
+use native.Mathlib.Omega.{arith}
+use borrow.Author.Tests.{lt-ltb, le-ltb, eq-eqb, ne-eqb}
+use lib.ListN.{length}
+use Rattle.field.specs.Primes.{modulusOf}
+use Rattle.format.specs.Bounds.{answerLengthOf}
+use Rattle.format.specs.declared.Reason.the-variants.{TooFewRows, OutOfRange, RepeatedPoint}
+use Rattle.format.specs.declared.Outcome.{Outcome}
+use Rattle.format.specs.declared.Outcome.the-variants.{Accepted, Recovered, Refused}
+use Rattle.header.specs.Header.{boundsOf, spareBitOf, jobLengthOf, rowsNeededOf}
+use Rattle.header.proofs.Fields.{narrow, rows-bytes}
+use Rattle.rows.specs.declared.search.Found.{Found}
+use Rattle.rows.specs.declared.search.Found.the-variants.{At, Nothing}
+use Rattle.rows.specs.Search.{firstBelow}
+use Rattle.rows.specs.Rows.{pointOf}
+use Rattle.job.specs.Refusals.{tooShort, spareBitIsOne, byteCountDiffers, tooFewRows, outOfRange, repeatedPoint, outcomeOfRows, outcomeOf, WellFormed}
+use Rattle.job.specs.Answer.{readingWith, readingOf}
+use Rattle.job.proofs.Deciding.{at-4, at-5, at-6, past-4}
+use Rattle.job.proofs.Facts.{well-formed-facts, points-below, points-distinct}
+use Rattle.job.proofs.Pigeonhole.{pigeonhole}
+
+module _ (s : List ℕ) (area : ℕ) where
+  -- "313 at most"
+  pub job-length-most : WellFormed s area → length s ≤ 313
+  job-length-most h = omega (arith, well-formed-facts s area h .byte-count, rows-bytes (boundsOf s) (narrow s))
+
+  -- "254 at most"
+  pub answer-length-most : WellFormed s area → answerLengthOf (boundsOf s) ≤ 254
+  answer-length-most h =
+      let f = well-formed-facts s area h in
+      let n = mul-le-mul-right {n = 4} (boundsOf s .numerator + 1) (narrow s .outputs-most) in
+      omega (arith, f .enough-rows, narrow s .rows-most)
+
+  -- "A job of three bytes with L = 0 and spare bit 0 meets 4."
+  pub no-rows : length s ≡ 3 → boundsOf s .rows ≡ 0 → spareBitOf s ≡ 0 → outcomeOf s area ≡ Refused TooFewRows 0
+  no-rows three none spare =
+      let bytes : length s ≡ jobLengthOf (boundsOf s) = rw none (omega arith) in
+      at-4 s area (le-ltb (length s) 3 (omega arith)) (ne-eqb (spareBitOf s) 1 (λ e. omega (arith, spare, e)))
+      (ap not (eq-eqb (length s) (jobLengthOf (boundsOf s)) bytes)) (lt-ltb (boundsOf s .rows) (rowsNeededOf (boundsOf s)) (omega arith))
+
+  -- "More than p rows, where 1 to 4 don't apply, meet 5 or 6."
+  pub too-many-rows : tooShort s ≡ false → spareBitIsOne s ≡ false → byteCountDiffers s ≡ false → tooFewRows s ≡ false
+      → modulusOf (boundsOf s .prime) < boundsOf s .rows
+      → ((r : ℕ) × (outcomeOf s area ≡ Refused OutOfRange r)) ⊎ ((r : ℕ) × (outcomeOf s area ≡ Refused RepeatedPoint r))
+  too-many-rows n1 n2 n3 n4 many = five (firstBelow (boundsOf s .rows) (outOfRange s)) refl
+    where
+      past : outcomeOf s area ≡ outcomeOfRows s area
+      past = past-4 s area n1 n2 n3 n4
+
+      six : firstBelow (boundsOf s .rows) (outOfRange s) ≡ Nothing → (f : Found) → firstBelow (boundsOf s .rows) (repeatedPoint s) ≡ f
+          → ((r : ℕ) × (outcomeOf s area ≡ Refused OutOfRange r)) ⊎ ((r : ℕ) × (outcomeOf s area ≡ Refused RepeatedPoint r))
+      six n5 (At r) e = inr (r, past ∙ at-6 s area n5 e)
+      six n5 Nothing e =
+          absurd (let h = pigeonhole (boundsOf s .rows) (modulusOf (boundsOf s .prime)) (pointOf s) (points-below s n5) (points-distinct s e) in omega arith)
+
+      five : (f : Found) → firstBelow (boundsOf s .rows) (outOfRange s) ≡ f
+          → ((r : ℕ) × (outcomeOf s area ≡ Refused OutOfRange r)) ⊎ ((r : ℕ) × (outcomeOf s area ≡ Refused RepeatedPoint r))
+      five (At r) e = inl (r, past ∙ at-5 s area e)
+      five Nothing e = six e (firstBelow (boundsOf s .rows) (repeatedPoint s)) refl
+
+outcome-kept : (o : Outcome) (s : List ℕ) → readingWith o s .outcome ≡ o
+outcome-kept Accepted s = refl
+outcome-kept (Recovered bytes wrong) s = refl
+outcome-kept (Refused reason row) s = refl
+
+-- the reading's outcome is the outcome
+pub reading-outcome : (s : List ℕ) (area : ℕ) → readingOf s area .outcome ≡ outcomeOf s area
+reading-outcome s area = outcome-kept (outcomeOf s area) s
+
+-- an accepting reading says that the job is well formed
+pub accepted-well-formed : (s : List ℕ) (area : ℕ) → readingOf s area .outcome ≡ Accepted → WellFormed s area
+accepted-well-formed s area h = sym (reading-outcome s area) ∙ h
+
+-- and a well-formed job is read whole
+pub reading-accepted : (s : List ℕ) (area : ℕ) → WellFormed s area → readingOf s area ≡ readingWith Accepted s
+reading-accepted s area h = ap (λ (o : Outcome). readingWith o s) h

@@ -1,0 +1,6 @@
+pub mod ArrayTests
+pub mod Deciding
+pub mod Pigeonhole
+pub mod Facts
+pub mod Laws
+pub mod Examples

@@ -1,0 +1,156 @@
+use borrow.Author.Needs.{needs}
+use borrow.Author.Tests.{lt-ltb, le-ltb}
+use Prim.Native.Nat.{ℕ}
+use mathlib.Core.List.{List}
+use mathlib.Core.Path.{_≡_, sym, ap, _∙_}
+use denote.Ref.{now}
+use Rattle.format.specs.Bounds.{answerLengthOf}
+use Rattle.format.specs.declared.Bounds.{Bounds}
+use Rattle.format.specs.declared.Outcome.{Outcome}
+use Rattle.format.specs.declared.Outcome.the-variants.{Accepted}
+use Rattle.header.specs.Header.{boundsOf}
+use Rattle.rows.specs.declared.search.Found.the-variants.{Nothing}
+use Rattle.rows.specs.Search.{firstBelow}
+use Rattle.job.specs.declared.reading.Reading.{Reading}
+use Rattle.job.specs.Refusals.{outOfRange, repeatedPoint, outcomeOfRows}
+use Rattle.job.specs.Answer.{readingWith}
+use Rattle.job.proofs.Deciding.{at-5, at-6, at-7, accepted}
+use Rattle.job.proofs.ArrayTests.{first-out-of-range, first-repeated}
+use Rattle.job.proofs.reading.read_body.Statement.{statement}
+use Rattle.job.proofs.reading.read_body.Tie as tie
+
+abbrev bytes : tie.Start → List ℕ
+bytes c = now (c .args .job)
+
+abbrev area : tie.Start → ℕ
+area c = c .args .area
+
+-- the entry, from where each test has run
+abbrev start-5 : tie.After-first-out-of-range → tie.Start
+start-5 c = c .before .before .before .before .before .before
+
+abbrev start-6 : tie.After-first-repeated → tie.Start
+start-6 c = start-5 (c .before .before .before)
+
+abbrev start-7 : tie.After-answer-length → tie.Start
+start-7 c = start-6 (c .before .before .before)
+
+-- a reading with an outcome that is known to be the definition's
+as-defined : {r : Reading} {o : Outcome} (c : tie.Start) → r ≡ readingWith o (bytes c) → outcomeOfRows (bytes c) (area c) ≡ o
+    → r ≡ readingWith (outcomeOfRows (bytes c) (area c)) (bytes c)
+as-defined c e h = e ∙ sym (ap (λ (x : Outcome). readingWith x (bytes c)) h)
+
+test-5 : (c : tie.After-first-out-of-range)
+    → c .first-out-of-range .result ≡ firstBelow (boundsOf (bytes (start-5 c)) .rows) (outOfRange (bytes (start-5 c)))
+test-5 c =
+    let rows = c .before .before .before .read-rows .ensures in
+    let p = c .before .before .before .before .modulus .ensures in
+    first-out-of-range (bytes (start-5 c)) (start-5 c .pre .0) (rows .0) (rows .1) p (c .first-out-of-range .ensures)
+
+not-5 : (c : tie.After-enum-told)
+    → firstBelow (boundsOf (bytes (start-5 (c .before .before))) .rows) (outOfRange (bytes (start-5 (c .before .before)))) ≡ Nothing
+not-5 c = sym (test-5 (c .before .before)) ∙ c .enum-told .given .1
+
+test-6 : (c : tie.After-first-repeated)
+    → c .first-repeated .result ≡ firstBelow (boundsOf (bytes (start-6 c)) .rows) (repeatedPoint (bytes (start-6 c)))
+test-6 c =
+    let rows = c .before .before .before .before .before .before .read-rows .ensures in
+    first-repeated (bytes (start-6 c)) (start-6 c .pre .0) (rows .0) (c .first-repeated .ensures)
+
+not-6 : (c : tie.After-enum-told2)
+    → firstBelow (boundsOf (bytes (start-6 (c .before .before))) .rows) (repeatedPoint (bytes (start-6 (c .before .before)))) ≡ Nothing
+not-6 c = sym (test-6 (c .before .before)) ∙ c .enum-told2 .given .1
+
+-- the length that test 7 asks for
+needed : (c : tie.After-answer-length) → c .answer-length .result ≡ answerLengthOf (boundsOf (bytes (start-7 c)))
+needed c = c .answer-length .ensures ∙ ap answerLengthOf (start-7 c .pre .0)
+
+modulus-requires : tie.Need-modulus-requires
+modulus-requires c κs = search needs
+
+read-rows-requires : tie.Need-read-rows-requires
+read-rows-requires c κs =
+    let pre = c .before .before .pre in
+    ((pre .1 .rows-most, pre .1 .outputs-most, pre .2), (ap (λ (b : Bounds). b .rows) (pre .0), ap (λ (b : Bounds). b .outputs) (pre .0)))
+
+first-out-of-range-requires : tie.Need-first-out-of-range-requires
+first-out-of-range-requires c κs = search needs
+
+enum-known-row : tie.Need-enum-known-row
+enum-known-row c = search needs
+
+refused-requires : tie.Need-refused-requires
+refused-requires c κs = search needs
+
+returns : tie.Need-returns
+returns c =
+    let a = c .before .before .before .before in
+    as-defined (start-5 a) (c .refused .ensures) (at-5 _ _ (sym (test-5 a) ∙ c .before .before .row .given .1))
+
+enum-told : tie.Need-enum-told
+enum-told c = search needs
+
+first-repeated-requires : tie.Need-first-repeated-requires
+first-repeated-requires c κs = search needs
+
+enum-known-row-2 : tie.Need-enum-known-row-2
+enum-known-row-2 c = search needs
+
+refused-requires-2 : tie.Need-refused-requires-2
+refused-requires-2 c κs = search needs
+
+returns-2 : tie.Need-returns-2
+returns-2 c =
+    let a = c .before .before .before .before in
+    as-defined (start-6 a) (c .refused2 .ensures)
+    (at-6 _ _ (not-5 (a .before)) (sym (test-6 a) ∙ c .before .before .row2 .given .1))
+
+enum-told-2 : tie.Need-enum-told-2
+enum-told-2 c = search needs
+
+answer-length-requires : tie.Need-answer-length-requires
+answer-length-requires c κs =
+    let fields = start-6 (c .before .before) .pre .1 in
+    record { few = fields .outputs-most; denominator-low = fields .denominator-most; numerators-low = λ i. fields .numerator-most }
+
+refused-requires-3 : tie.Need-refused-requires-3
+refused-requires-3 c κs = search needs
+
+returns-3 : tie.Need-returns-3
+returns-3 c =
+    let a = c .before .before in
+    let short = lt-ltb _ _ (rw (needed a) at (c .before .if1 .taken)) in
+    as-defined (start-7 a) (c .refused3 .ensures) (at-7 _ _ (not-5 (a .before .before .before .before)) (not-6 (a .before)) short)
+
+returns-4 : tie.Need-returns-4
+returns-4 c =
+    let a = c .before in
+    let enough = le-ltb _ _ (rw (needed a) at (c .if1 .left)) in
+    let read = a .before .before .before .before .before .before .before .before .before in
+    let rows = read .read-rows .result in
+    let reading : _≡_ {A = Reading}
+    record { outcome = Accepted; bounds = start-7 a .args .bounds; points = rows .points; values = rows .values }
+    (readingWith Accepted (bytes (start-7 a))) =
+    λ i. record { outcome = Accepted; bounds = start-7 a .pre .0 i; points = read .read-rows .ensures .0 i; values = read .read-rows .ensures .1 i } in
+    as-defined (start-7 a) reading (accepted _ _ (not-5 (a .before .before .before .before)) (not-6 (a .before)) enough)
+
+pub read-body-spec : {M : Type 1} → statement M
+read-body-spec =
+    tie.close
+    (tie.spec
+    modulus-requires
+    read-rows-requires
+    first-out-of-range-requires
+    enum-known-row
+    refused-requires
+    returns
+    enum-told
+    first-repeated-requires
+    enum-known-row-2
+    refused-requires-2
+    returns-2
+    enum-told-2
+    answer-length-requires
+    refused-requires-3
+    returns-3
+    returns-4)

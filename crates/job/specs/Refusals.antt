@@ -1,0 +1,70 @@
+-- Paper 01, "When the rack's sheet is sent back": the conditions 1 to 7 on the bytes s of a job and the length of the answer area.
+use Prim.Native.Nat.{ℕ}
+use mathlib.Core.Bool.{Bool, not, _||_}
+use mathlib.Core.List.{List}
+use mathlib.Core.Path.{_≡_}
+use lib.Dec.{ltb, leb, eqb}
+use lib.ListN.{length}
+use Rattle.field.specs.Primes.{modulusOf}
+use Rattle.format.specs.Bounds.{answerLengthOf}
+use Rattle.format.specs.declared.Reason.{Reason}
+use Rattle.format.specs.declared.Reason.the-variants.{TooShort, SpareBit, ByteCount, TooFewRows, OutOfRange, RepeatedPoint, AreaTooShort}
+use Rattle.format.specs.declared.Outcome.{Outcome}
+use Rattle.format.specs.declared.Outcome.the-variants.{Accepted, Refused}
+use Rattle.rows.specs.declared.search.Found.{Found}
+use Rattle.rows.specs.declared.search.Found.the-variants.{At, Nothing}
+use Rattle.rows.specs.Search.{ifHolds, firstBelow, anyBelow}
+use Rattle.header.specs.Header.{boundsOf, spareBitOf, jobLengthOf, rowsNeededOf}
+use Rattle.rows.specs.Rows.{pointOf, valueOf}
+
+-- 1: "fewer than 3 bytes"
+abbrev pub tooShort : List ℕ → Bool
+tooShort s = ltb (length s) 3
+
+-- 2: "spare bit is 1"
+abbrev pub spareBitIsOne : List ℕ → Bool
+spareBitIsOne s = eqb (spareBitOf s) 1
+
+-- 3: "byte count differs from the formula"
+abbrev pub byteCountDiffers : List ℕ → Bool
+byteCountDiffers s = not (eqb (length s) (jobLengthOf (boundsOf s)))
+
+-- 4: "L below df + dg + 2 × E + 1"
+abbrev pub tooFewRows : List ℕ → Bool
+tooFewRows s = ltb (boundsOf s .rows) (rowsNeededOf (boundsOf s))
+
+-- 5: in row r "a point or value is p or more"
+abbrev pub outOfRange : List ℕ → ℕ → Bool
+outOfRange s r =
+    leb (modulusOf (boundsOf s .prime)) (pointOf s r)
+    || anyBelow (boundsOf s .outputs) (λ i. leb (modulusOf (boundsOf s .prime)) (valueOf s r i))
+
+-- 6: the point of row r "stands in an earlier row"
+abbrev pub repeatedPoint : List ℕ → ℕ → Bool
+repeatedPoint s r = anyBelow r (λ q. eqb (pointOf s q) (pointOf s r))
+
+-- 7: "answer area shorter than the sheet needs"
+abbrev pub areaTooShort : List ℕ → ℕ → Bool
+areaTooShort s area = ltb area (answerLengthOf (boundsOf s))
+
+-- the refusal with its row where its test found one, and otherwise what the later tests say
+abbrev pub refuse : Reason → Found → Outcome → Outcome
+refuse reason (At row) later = Refused reason row
+refuse reason Nothing later = later
+
+-- tests 5 to 7: of 5 "first such row", of 6 "first such later row"
+unfoldable pub outcomeOfRows : List ℕ → ℕ → Outcome
+outcomeOfRows s area =
+    refuse OutOfRange (firstBelow (boundsOf s .rows) (outOfRange s))
+    (refuse RepeatedPoint (firstBelow (boundsOf s .rows) (repeatedPoint s)) (refuse AreaTooShort (ifHolds (areaTooShort s area) 0) Accepted))
+
+-- "Tests run in the order of the numbers, and the first that applies is returned"; "the row is 0 where none is named"
+unfoldable pub outcomeOf : List ℕ → ℕ → Outcome
+outcomeOf s area =
+    refuse TooShort (ifHolds (tooShort s) 0)
+    (refuse SpareBit (ifHolds (spareBitIsOne s) 0)
+    (refuse ByteCount (ifHolds (byteCountDiffers s) 0) (refuse TooFewRows (ifHolds (tooFewRows s) 0) (outcomeOfRows s area))))
+
+-- "A job is well formed when no test that stands before 8 sends it back." Test 7 is one of them, so this speaks of the area's length too.
+abbrev pub WellFormed : List ℕ → ℕ → Type 0
+WellFormed s area = outcomeOf s area ≡ Accepted

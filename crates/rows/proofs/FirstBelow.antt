@@ -1,0 +1,73 @@
+-- Laws of the first number below a bound that passes a test.
+use mathlib.Core.Bool.{Bool, true, false, true≢false}
+use mathlib.Core.Logic.{⊎-elim}
+use mathlib.Core.Path.{_≡_, refl, sym, ap, ap₂, subst}
+use Prim.Native.Nat.{ℕ, zero, suc, _+_, _<_}
+use native.Mathlib.Nat.{not-suc-le-zero, le-of-suc-le-suc, eq-or-lt-of-le}
+use native.Mathlib.Numerals.{add-one}
+use native.Mathlib.Omega.{arith}
+use Rattle.rows.specs.declared.search.Found.{Found}
+use Rattle.rows.specs.declared.search.Found.the-variants.{At, Nothing}
+use Rattle.rows.specs.Search.{firstBelow, anyBelow, orElse, ifHolds, isFound}
+
+pub at-not-nothing : {i : ℕ} → At i ≡ Nothing → ⊥
+at-not-nothing {i} e = let z : _≡_ {A = ℕ} 0 1 = cc in omega arith
+
+nothing-both : (f : Found) (b : Bool) (n : ℕ) → orElse f (ifHolds b n) ≡ Nothing → (f ≡ Nothing) × (b ≡ false)
+nothing-both (At i) b n e = absurd (at-not-nothing e)
+nothing-both Nothing true n e = absurd (at-not-nothing e)
+nothing-both Nothing false n e = (refl, refl)
+
+not-found : (f : Found) → isFound f ≡ false → f ≡ Nothing
+not-found (At i) e = absurd (true≢false e)
+not-found Nothing e = refl
+
+module _ (test : ℕ → Bool) where
+  -- a bound that passes no test leaves the search without a find
+  pub none-more : (n : ℕ) → firstBelow n test ≡ Nothing → test n ≡ false → firstBelow (n + 1) test ≡ Nothing
+  unfolding firstBelow
+  none-more n before here = rw (add-one n, before, here) refl
+
+  -- what a search finds first, a longer one finds too
+  pub first-at : (m n : ℕ) → firstBelow m test ≡ Nothing → test m ≡ true → m < n → firstBelow n test ≡ At m
+  unfolding firstBelow
+  first-at m zero before here l = absurd (not-suc-le-zero l)
+  first-at m (suc n) before here l =
+      ⊎-elim
+      (λ e. subst (λ (k : ℕ). orElse (firstBelow k test) (ifHolds (test k) k) ≡ At m) e (rw (before, here) refl))
+      (λ lt. rw (first-at m n before here lt) refl)
+      (eq-or-lt-of-le (le-of-suc-le-suc l))
+
+  -- the same where only the find counts
+  pub any-at : (m n : ℕ) → firstBelow m test ≡ Nothing → test m ≡ true → m < n → true ≡ anyBelow n test
+  any-at m n before here l = ap isFound (sym (first-at m n before here l))
+
+  pub first-none : (m n : ℕ) → firstBelow m test ≡ Nothing → m ≡ n → Nothing ≡ firstBelow n test
+  first-none m n before e = rw (← e, before) refl
+
+  pub any-none : (m n : ℕ) → firstBelow m test ≡ Nothing → m ≡ n → false ≡ anyBelow n test
+  any-none m n before e = ap isFound (first-none m n before e)
+
+  -- where nothing is found, no number passes
+  pub none-passes : (n : ℕ) → firstBelow n test ≡ Nothing → (i : ℕ) → i < n → test i ≡ false
+  unfolding firstBelow
+  none-passes zero e i l = absurd (not-suc-le-zero l)
+  none-passes (suc n) e i l =
+      let h : (firstBelow n test ≡ Nothing) × (test n ≡ false) = nothing-both (firstBelow n test) (test n) n e in
+      ⊎-elim (λ q. subst (λ (k : ℕ). test k ≡ false) (sym q) (h .1)) (λ lt. none-passes n (h .0) i lt) (eq-or-lt-of-le (le-of-suc-le-suc l))
+
+  pub any-passes : (n : ℕ) → anyBelow n test ≡ false → (i : ℕ) → i < n → test i ≡ false
+  any-passes n e = none-passes n (not-found (firstBelow n test) e)
+
+  -- and the other way round
+  pub none-below : (n : ℕ) → ((i : ℕ) → i < n → test i ≡ false) → firstBelow n test ≡ Nothing
+  unfolding firstBelow
+  none-below zero all = refl
+  none-below (suc n) all = rw (none-below n (λ i l. all i (omega arith)), all n (omega arith)) refl
+
+-- tests that agree below the bound find the same
+pub first-cong : (n : ℕ) (t u : ℕ → Bool) → ((i : ℕ) → i < n → t i ≡ u i) → firstBelow n t ≡ firstBelow n u
+unfolding firstBelow
+first-cong zero t u same = refl
+first-cong (suc n) t u same =
+    ap₂ orElse (first-cong n t u (λ i l. same i (omega arith))) (ap (λ (b : Bool). ifHolds b n) (same n (omega arith)))

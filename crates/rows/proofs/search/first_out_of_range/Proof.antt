@@ -1,0 +1,85 @@
+use Prim.Native.Nat.{_≤_, _-_, _+_, _*_}
+use mathlib.Core.Path.{_≡_, refl, sym, ap₂, _∙_}
+use mathlib.Core.Bool.{_||_}
+use borrow.Author.Needs.{needs}
+use borrow.Author.Tests.{le-leb, lt-leb}
+use native.Mathlib.Omega.{arith}
+use lib.Dec.{leb}
+use lib.ListN.{getD}
+use Rattle.rows.specs.declared.search.Found.the-variants.{Nothing}
+use Rattle.rows.specs.Search.{firstBelow, anyBelow}
+use Rattle.rows.proofs.FirstBelow.{none-more, first-at, first-none}
+use Rattle.rows.proofs.search.first_out_of_range.Statement.{statement}
+use Rattle.rows.proofs.search.first_out_of_range.Tie as tie
+
+abbrev Inv-loop : tie.InvT-loop
+Inv-loop values rows outputs p points r₀ r =
+    (r ≤ rows)
+    × (firstBelow r (λ k. leb p (getD points k 0) || anyBelow outputs (λ i. leb p (getD values (k * 4 + i) 0))) ≡ Nothing)
+
+abbrev μ-loop : tie.MeasureT-loop
+μ-loop values rows outputs p points r₀ r = rows - r
+
+loop-holds : tie.Need-loop-holds Inv-loop μ-loop
+unfolding firstBelow
+loop-holds c = (search needs, refl)
+
+cast-row : tie.Need-cast-row Inv-loop μ-loop
+cast-row c = search needs
+
+mul-if1 : tie.Need-mul-if1 Inv-loop μ-loop
+mul-if1 c = search needs
+
+array-read-if1 : tie.Need-array-read-if1 Inv-loop μ-loop
+array-read-if1 c = search needs
+
+returns : tie.Need-returns Inv-loop μ-loop
+returns c =
+    let a = c .before .before in
+    sym (first-at _ (a .loop .r) _ (a .loop .inv .1) (ap₂ _||_ (le-leb _ _ (c .if1 .taken)) refl) (omega arith))
+
+mul-value-out-of-range : tie.Need-mul-value-out-of-range Inv-loop μ-loop
+mul-value-out-of-range c = search needs
+
+value-out-of-range-requires : tie.Need-value-out-of-range-requires Inv-loop μ-loop
+value-out-of-range-requires c κs = search needs
+
+returns-2 : tie.Need-returns-2 Inv-loop μ-loop
+returns-2 c =
+    let a = c .before .before .before .before in
+    let here = ap₂ _||_ (lt-leb _ _ (c .before .before .if1 .left)) (sym (c .before .value-out-of-range .ensures) ∙ c .if2 .taken) in
+    sym (first-at _ (a .loop .r) _ (a .loop .inv .1) here (omega arith))
+
+add-r : tie.Need-add-r Inv-loop μ-loop
+add-r c = search needs
+
+loop-less : tie.Need-loop-less Inv-loop μ-loop
+loop-less c = search needs
+
+loop-again : tie.Need-loop-again Inv-loop μ-loop
+loop-again c =
+    let a = c .before .before .before .before in
+    let here = ap₂ _||_ (lt-leb _ _ (c .before .before .if1 .left)) (sym (c .before .value-out-of-range .ensures) ∙ c .if2 .left) in
+    (omega arith, none-more _ (a .loop .r) (a .loop .inv .1) here)
+
+returns-3 : tie.Need-returns-3 Inv-loop μ-loop
+returns-3 c = first-none _ (c .before .loop .r) _ (c .before .loop .inv .1) (omega arith)
+
+pub first-out-of-range-spec : {M : Type 1} → statement M
+first-out-of-range-spec =
+    tie.close
+    (tie.spec
+    Inv-loop
+    μ-loop
+    loop-holds
+    cast-row
+    mul-if1
+    array-read-if1
+    returns
+    mul-value-out-of-range
+    value-out-of-range-requires
+    returns-2
+    add-r
+    loop-less
+    loop-again
+    returns-3)

@@ -1,0 +1,62 @@
+use Prim.Native.Nat.{_≤_, _-_}
+use mathlib.Core.Path.{_≡_, refl, sym, _∙_}
+use borrow.Author.Needs.{needs}
+use native.Mathlib.Omega.{arith}
+use lib.Dec.{eqb}
+use lib.ListN.{getD}
+use Rattle.rows.specs.declared.search.Found.the-variants.{Nothing}
+use Rattle.rows.specs.Search.{firstBelow, anyBelow}
+use Rattle.rows.proofs.FirstBelow.{none-more, first-at, first-none}
+use Rattle.rows.proofs.search.first_repeated.Statement.{statement}
+use Rattle.rows.proofs.search.first_repeated.Tie as tie
+
+abbrev Inv-loop : tie.InvT-loop
+Inv-loop points rows r₀ r =
+    (r ≤ rows) × (firstBelow r (λ k. anyBelow k (λ q. eqb (getD points q 0) (getD points k 0))) ≡ Nothing)
+
+abbrev μ-loop : tie.MeasureT-loop
+μ-loop points rows r₀ r = rows - r
+
+loop-holds : tie.Need-loop-holds Inv-loop μ-loop
+unfolding firstBelow
+loop-holds c = (search needs, refl)
+
+cast-later : tie.Need-cast-later Inv-loop μ-loop
+cast-later c = search needs
+
+stands-earlier-requires : tie.Need-stands-earlier-requires Inv-loop μ-loop
+stands-earlier-requires c κs = search needs
+
+returns : tie.Need-returns Inv-loop μ-loop
+returns c =
+    let a = c .before .before .before in
+    sym (first-at _ (a .loop .r) _ (a .loop .inv .1) (sym (c .before .stands-earlier .ensures) ∙ c .if1 .taken) (omega arith))
+
+add-r : tie.Need-add-r Inv-loop μ-loop
+add-r c = search needs
+
+loop-less : tie.Need-loop-less Inv-loop μ-loop
+loop-less c = search needs
+
+loop-again : tie.Need-loop-again Inv-loop μ-loop
+loop-again c =
+    let a = c .before .before .before in
+    (omega arith, none-more _ (a .loop .r) (a .loop .inv .1) (sym (c .before .stands-earlier .ensures) ∙ c .if1 .left))
+
+returns-2 : tie.Need-returns-2 Inv-loop μ-loop
+returns-2 c = first-none _ (c .before .loop .r) _ (c .before .loop .inv .1) (omega arith)
+
+pub first-repeated-spec : {M : Type 1} → statement M
+first-repeated-spec =
+    tie.close
+    (tie.spec
+    Inv-loop
+    μ-loop
+    loop-holds
+    cast-later
+    stands-earlier-requires
+    returns
+    add-r
+    loop-less
+    loop-again
+    returns-2)

@@ -1,0 +1,66 @@
+use Prim.Native.Nat.{_≤_, _-_, _+_}
+use mathlib.Core.Path.{_≡_, refl}
+use borrow.Author.Needs.{needs}
+use borrow.Author.Tests.{le-leb, lt-leb}
+use native.Mathlib.Omega.{arith}
+use lib.Dec.{leb}
+use lib.ListN.{getD}
+use Rattle.rows.specs.declared.search.Found.the-variants.{Nothing}
+use Rattle.rows.specs.Search.{firstBelow}
+use Rattle.rows.proofs.FirstBelow.{none-more, any-at, any-none}
+use Rattle.rows.proofs.search.value_out_of_range.Statement.{statement}
+use Rattle.rows.proofs.search.value_out_of_range.Tie as tie
+
+abbrev Inv-loop : tie.InvT-loop
+Inv-loop from outputs p values i₀ i = (i ≤ outputs) × (firstBelow i (λ k. leb p (getD values (from + k) 0)) ≡ Nothing)
+
+abbrev μ-loop : tie.MeasureT-loop
+μ-loop from outputs p values i₀ i = outputs - i
+
+loop-holds : tie.Need-loop-holds Inv-loop μ-loop
+unfolding firstBelow
+loop-holds c = (search needs, refl)
+
+add-if1 : tie.Need-add-if1 Inv-loop μ-loop
+add-if1 c = search needs
+
+mul-if1 : tie.Need-mul-if1 Inv-loop μ-loop
+mul-if1 c = search needs
+
+array-read-if1 : tie.Need-array-read-if1 Inv-loop μ-loop
+array-read-if1 c = search needs
+
+returns : tie.Need-returns Inv-loop μ-loop
+returns c =
+    let a = c .before .before in
+    any-at _ (a .loop .i) _ (a .loop .inv .1) (le-leb _ _ (c .if1 .taken)) (omega arith)
+
+add-i : tie.Need-add-i Inv-loop μ-loop
+add-i c = search needs
+
+loop-less : tie.Need-loop-less Inv-loop μ-loop
+loop-less c = search needs
+
+loop-again : tie.Need-loop-again Inv-loop μ-loop
+loop-again c =
+    let a = c .before .before in
+    (omega arith, none-more _ (a .loop .i) (a .loop .inv .1) (lt-leb _ _ (c .if1 .left)))
+
+returns-2 : tie.Need-returns-2 Inv-loop μ-loop
+returns-2 c = any-none _ (c .before .loop .i) _ (c .before .loop .inv .1) (omega arith)
+
+pub value-out-of-range-spec : {M : Type 1} → statement M
+value-out-of-range-spec =
+    tie.close
+    (tie.spec
+    Inv-loop
+    μ-loop
+    loop-holds
+    add-if1
+    mul-if1
+    array-read-if1
+    returns
+    add-i
+    loop-less
+    loop-again
+    returns-2)

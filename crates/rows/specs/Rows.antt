@@ -1,0 +1,36 @@
+-- Paper 01, "The job sheet": "L rows follow, each a point and n values, 16 bits a number".
+use Prim.Native.Nat.{ℕ, _+_, _*_, _/_, _%_}
+use mathlib.Core.Bool.{cond}
+use mathlib.Core.List.{List}
+use lib.Dec.{ltb}
+use lib.ListN.{getD}
+use Rattle.header.specs.Header.{boundsOf}
+use Rattle.poly.specs.Coefficients.{tabulate}
+
+-- the 16 bits at bytes k and k + 1, most significant bit first
+abbrev pub numberFrom : List ℕ → ℕ → ℕ
+numberFrom s k = getD s k 0 * 256 + getD s (k + 1) 0
+
+-- the number in row r and column c: column 0 is the point, columns 1 to n are the values
+unfoldable pub numberAt : List ℕ → ℕ → ℕ → ℕ
+numberAt s r c = numberFrom s (3 + 2 * (r * (1 + boundsOf s .outputs) + c))
+
+-- the point of row r, counted from 0
+abbrev pub pointOf : List ℕ → ℕ → ℕ
+pointOf s r = numberAt s r 0
+
+-- the value of output i in row r, both counted from 0
+abbrev pub valueOf : List ℕ → ℕ → ℕ → ℕ
+valueOf s r i = numberAt s r (1 + i)
+
+-- the same, with 0 for outputs that do not exist
+abbrev pub valueOrZero : List ℕ → ℕ → ℕ → ℕ
+valueOrZero s r i = cond (ltb i (boundsOf s .outputs)) (valueOf s r i) 0
+
+-- the points of all rows, and 0 at places that are no rows
+unfoldable pub pointsOf : List ℕ → List ℕ
+pointsOf s = tabulate 32 (λ r. cond (ltb r (boundsOf s .rows)) (pointOf s r) 0)
+
+-- the values of all rows, that of output i in row r at 4 r + i, and 0 at places that are no rows or outputs
+unfoldable pub valuesOf : List ℕ → List ℕ
+valuesOf s = tabulate 128 (λ k. cond (ltb (k / 4) (boundsOf s .rows)) (valueOrZero s (k / 4) (k % 4)) 0)
