@@ -80,11 +80,11 @@ module _ (F : Field) where
         → wrongCount F N n f g row' L' ≡ wrongCount F N n f g row L + furtherWrongCount row L row' L'
     unfolding same bad
     wrong-adds row L row' L' d d' holds = bad-adds (same row row') (bad row) (bad row') L L' (record {
-        first = λ i k j l l' s t. d i k l l' (s .point ∙ sym (t .point));
-        second = λ k i j l li lj s t. same-place (λ l. row' l .point) L' i j d' li lj (sym (s .point) ∙ t .point);
-        there = λ i j l l' s. wrong-same s;
-        back = λ i j l l' s. wrong-same (same-row-sym s)
-      }) holds
+      first = λ i k j l l' s t. d i k l l' (s .point ∙ sym (t .point));
+      second = λ k i j l li lj s t. same-place (λ l. row' l .point) L' i j d' li lj (sym (s .point) ∙ t .point);
+      there = λ i j l l' s. wrong-same s;
+      back = λ i j l l' s. wrong-same (same-row-sym s);
+    }) holds
 
   -- k + w: the wrong rows of T, and the further rows of T' that are wrong
   abbrev pub wrongTogether : (N : ℕ) (T T' : Problem R) (f : ℕ → Series R) (g : Series R) → ℕ
