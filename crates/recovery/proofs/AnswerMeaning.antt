@@ -1,0 +1,134 @@
+-- An answer of a job, said of lists of numbers, is an answer of the method's problem for the job's rows.
+use mathlib.Core.Path.{_≡_, refl, sym, _∙_, ap, ap₂, subst}
+use mathlib.Core.Bool.{Bool, true, false}
+use mathlib.Core.List.{List}
+use Prim.Native.Nat.{ℕ, zero, suc, _+_, _*_, _%_, _≤_, _<_}
+use native.Mathlib.Nat.{mod-eq-of-lt, mod-lt}
+use native.Mathlib.Numerals.{add-one}
+use native.Mathlib.Omega.{arith}
+use Rattle.algebra.proofs.Series.{Series}
+use Rattle.algebra.proofs.Value.{value}
+use Rattle.method.proofs.Problem.{Answer as MethodAnswer, Right, Wrong, wrongCount as methodWrongCount, wrongCount-right, wrongCount-wrong, wrongCount-all-right, Evaluation, Problem}
+use Rattle.field.proofs.PrimeField.{Residue, residue, residue-mul, equal-residue}
+use Rattle.format.specs.Bounds.{numeratorBoundOf}
+use Rattle.poly.specs.Coefficients.{at, Bounded}
+use Rattle.poly.specs.Operations.{valueOf}
+use Rattle.poly.proofs.Values.{value-below}
+use Rattle.poly_meaning.proofs.Series.{series, series-at, series-below, residue-mod, residue-zero, value-means-bounded}
+use Rattle.poly_meaning.proofs.Degrees.{below-bounded}
+use Rattle.header.specs.Header.{boundsOf}
+use Rattle.rows.specs.Rows.{pointOf, valueOf as valueAt, pointsOf, valuesOf}
+use Rattle.job.specs.Refusals.{WellFormed}
+use Rattle.rows.proofs.Entries.{points-at, values-at}
+use Rattle.job.proofs.Facts.{WellFormedFacts}
+use Rattle.answer.specs.Word.{flagOf, countBelow}
+use Rattle.judge.specs.Rows.{wrongRow}
+use Rattle.judge.proofs.Rows.{right-all, all-right}
+use Rattle.soundness.proofs.Candidates.{P, R, F, poly, evaluation, problem}
+use Rattle.recovery.specs.Answers.{primeOf, wrongAt, wrongCount, Within, LeadingOne, Reduced, Answer}
+use Rattle.recovery.proofs.Coprime.{coprime-means, means-coprime}
+
+module _ (s : List ℕ) {area : ℕ} (W : WellFormedFacts s area) where
+  abbrev T : Problem (R (boundsOf s))
+  T = problem (boundsOf s) (pointsOf s) (valuesOf s)
+
+  abbrev p : ℕ
+  p = primeOf s
+
+  abbrev ρ : ℕ → Residue p (P (boundsOf s))
+  ρ = residue p (P (boundsOf s))
+
+  positive : 0 < p
+  positive = let two = P (boundsOf s) .two in omega arith
+
+  -- the rows, as the code holds them
+  abbrev pub row : ℕ → Evaluation (R (boundsOf s))
+  row = evaluation (boundsOf s) (pointsOf s) (valuesOf s)
+
+  module _ {f : ℕ → List ℕ} {g : List ℕ} (within : Within s f g) where
+    abbrev pub fs : ℕ → Series (R (boundsOf s))
+    fs i = poly (boundsOf s) (f i)
+
+    abbrev pub gs : Series (R (boundsOf s))
+    gs = poly (boundsOf s) g
+
+    value-f : (i : ℕ) → i < boundsOf s .outputs → (x : ℕ) → ρ (valueOf p x (f i)) ≡ value (R (boundsOf s)) 32 (fs i) (ρ x)
+    value-f i li x = value-means-bounded p (P (boundsOf s)) 32 x (within .numerators i li) (let n = W .fields .numerator-most in omega arith)
+
+    value-g : (x : ℕ) → ρ (valueOf p x g) ≡ value (R (boundsOf s)) 32 gs (ρ x)
+    value-g x = value-means-bounded p (P (boundsOf s)) 32 x (within .denominator) (let n = W .fields .denominator-most in omega arith)
+
+    -- the right side of a row's condition
+    right-side : (x y : ℕ) → ρ (valueOf p x g * y % p) ≡ R (boundsOf s) .mul (value (R (boundsOf s)) 32 gs (ρ x)) (ρ y)
+    right-side x y = residue-mod p (P (boundsOf s)) _ ∙ sym (residue-mul p (P (boundsOf s)) _ y) ∙ ap (λ t. R (boundsOf s) .mul t (ρ y)) (value-g x)
+
+    right-means : (r : ℕ) → r < boundsOf s .rows → wrongAt s f g r ≡ false → Right (F (boundsOf s)) 32 (boundsOf s .outputs) fs gs (row r)
+    right-means r lr e i li =
+        rw (points-at s r lr, values-at s r i lr li)
+        (sym (value-f i li (pointOf s r)) ∙ ap ρ (right-all p (pointOf s r) (valueAt s r) f g (boundsOf s .outputs) e i li) ∙ right-side (pointOf s r) (valueAt s r i))
+
+    means-right : (r : ℕ) → r < boundsOf s .rows → Right (F (boundsOf s)) 32 (boundsOf s .outputs) fs gs (row r) → wrongAt s f g r ≡ false
+    means-right r lr h = all-right p (pointOf s r) (valueAt s r) f g (boundsOf s .outputs) equal
+      where
+        condition : (i : ℕ) → i < boundsOf s .outputs
+            → value (R (boundsOf s)) 32 (fs i) (ρ (pointOf s r)) ≡ R (boundsOf s) .mul (value (R (boundsOf s)) 32 gs (ρ (pointOf s r))) (ρ (valueAt s r i))
+        condition i li = rw (points-at s r lr, values-at s r i lr li) at (h i li)
+
+        equal : (i : ℕ) → i < boundsOf s .outputs → valueOf p (pointOf s r) (f i) ≡ valueOf p (pointOf s r) g * valueAt s r i % p
+        equal i li =
+            sym (mod-eq-of-lt (value-below p (pointOf s r) (f i) positive))
+            ∙ equal-residue p (P (boundsOf s)) _ _ (value-f i li (pointOf s r) ∙ condition i li ∙ sym (right-side (pointOf s r) (valueAt s r i)))
+            ∙ mod-eq-of-lt (mod-lt _ positive)
+
+    pub count-means : (L : ℕ) → L ≤ boundsOf s .rows
+        → countBelow L (wrongAt s f g) ≡ methodWrongCount (F (boundsOf s)) 32 (boundsOf s .outputs) fs gs row L
+    unfolding countBelow
+    count-means zero l = sym (wrongCount-all-right (F (boundsOf s)) 32 (boundsOf s .outputs) fs gs row 0 (λ k h. absurd (omega arith)))
+    count-means (suc r) l = by (wrongAt s f g r) refl (count-means r (omega arith))
+      where
+        by : (w : Bool) → wrongAt s f g r ≡ w
+            → countBelow r (wrongAt s f g) ≡ methodWrongCount (F (boundsOf s)) 32 (boundsOf s .outputs) fs gs row r
+            → countBelow r (wrongAt s f g) + flagOf w ≡ methodWrongCount (F (boundsOf s)) 32 (boundsOf s .outputs) fs gs row (suc r)
+        by false e same =
+            let right = wrongCount-right (F (boundsOf s)) 32 (boundsOf s .outputs) fs gs row r (right-means r l e) in
+            omega arith
+        by true e same =
+            let wrong = wrongCount-wrong (F (boundsOf s)) 32 (boundsOf s .outputs) fs gs row r
+            (λ ok. let right = means-right r l ok in let clash : true ≡ false = sym e ∙ right in let z : _≡_ {A = ℕ} 0 1 = cc in omega arith) in
+            omega arith
+
+  pub answer-means : {f : ℕ → List ℕ} {g : List ℕ} → Answer s f g
+      → MethodAnswer (F (boundsOf s)) 32 (problem (boundsOf s) (pointsOf s) (valuesOf s)) (λ i. poly (boundsOf s) (f i)) (poly (boundsOf s) g)
+  answer-means {f} {g} a = record {
+    numerators-below = λ i li k l. series-below p (P (boundsOf s)) (a .within .numerators i li) k (omega arith);
+    denominator-below = λ k l. series-below p (P (boundsOf s)) (a .within .denominator) k (omega arith);
+    degree = a .reduced .monic .degree;
+    monic = record {
+      top = series-at p (P (boundsOf s)) g _ ∙ ap ρ (a .reduced .monic .leading);
+      low = λ k l. series-at p (P (boundsOf s)) g k ∙ ap ρ (a .reduced .monic .above k (omega arith));
+    };
+    reduced = coprime-means p (P (boundsOf s)) (boundsOf s .outputs) f g (a .reduced .coprime);
+    few-wrong = (let e = count-means (a .within) (boundsOf s .rows) (omega arith) in let h = a .few-wrong in omega arith);
+  }
+
+  pub means-answer : {f : ℕ → List ℕ} {g : List ℕ} → Within s f g
+      → MethodAnswer (F (boundsOf s)) 32 (problem (boundsOf s) (pointsOf s) (valuesOf s)) (λ i. poly (boundsOf s) (f i)) (poly (boundsOf s) g)
+      → Answer s f g
+  means-answer {f} {g} within a = record {
+    within = within;
+    reduced = record {
+      monic = record {
+        degree = a .degree;
+        leading = leading;
+        above = λ k l. residue-zero p (P (boundsOf s)) (at g k) (within .denominator .residues k) (sym (series-at p (P (boundsOf s)) g k) ∙ a .monic .low k (omega arith));
+      };
+      coprime = means-coprime p (P (boundsOf s)) (boundsOf s .outputs) f g (a .reduced);
+    };
+    few-wrong = (let e = count-means within (boundsOf s .rows) (omega arith) in let h = a .few-wrong in omega arith);
+  }
+    where
+      leading : at g (a .degree) ≡ 1
+      leading =
+          let two = P (boundsOf s) .two in
+          sym (mod-eq-of-lt (within .denominator .residues (a .degree)))
+          ∙ equal-residue p (P (boundsOf s)) _ 1 (sym (series-at p (P (boundsOf s)) g (a .degree)) ∙ a .monic .top) ∙ mod-eq-of-lt (omega arith)

@@ -1,0 +1,141 @@
+-- What the candidate after the last output says of a well-formed job.
+use mathlib.Core.Path.{_≡_, refl, sym, _∙_, ap, subst}
+use mathlib.Core.Logic.{_≢_, inl, inr}
+use mathlib.Core.Bool.{Bool, true, false, cond}
+use mathlib.Core.List.{List}
+use Prim.Native.Nat.{ℕ, _+_, _*_, _/_, _%_, _≤_, _<_}
+use native.Mathlib.Decide.{decLt}
+use native.Mathlib.Omega.{arith}
+use lib.Dec.{ltb}
+use lib.ListN.{length}
+use borrow.Author.Tests.{le-ltb, lt-ltb}
+use Rattle.method.proofs.Problem.{None, Answer as MethodAnswer}
+use Rattle.method.proofs.Decision.{candidate-is-answer, none-if-many-wrong, unique}
+use Rattle.format.specs.Bounds.{numeratorBoundOf}
+use Rattle.poly.specs.Coefficients.{at, Bounded}
+use Rattle.poly.proofs.Lists.{at-past, at-tabulate, length-tabulate}
+use Rattle.header.specs.Header.{boundsOf}
+use Rattle.rows.specs.Rows.{pointOf, valueOf, valueOrZero, pointsOf, valuesOf}
+use Rattle.job.specs.Refusals.{WellFormed}
+use Rattle.rows.proofs.Entries.{points-at, values-at}
+use Rattle.job.proofs.Facts.{WellFormedFacts, well-formed-facts}
+use Rattle.candidate.specs.declared.Candidate.{Candidate}
+use Rattle.candidate.specs.Candidates.{Sized, Table, numeratorAt, candidateAfter}
+use Rattle.soundness.proofs.Candidates.{P, R, F, poly, problem, Usable, Good, Verdict, ample, capacity}
+use Rattle.soundness.proofs.Verdicts.{verdict}
+use Rattle.recovery.specs.Answers.{primeOf, wrongCount, Within, Answer, Unsolvable}
+use Rattle.recovery.proofs.AnswerMeaning.{answer-means, means-answer, count-means}
+
+module _ (s : List ℕ) {area : ℕ} (W : WellFormedFacts s area) where
+  positive : 0 < primeOf s
+  positive = let two = P (boundsOf s) .two in omega arith
+
+  -- the arrays hold residues, and 0 at places that are no rows or outputs
+  points-below : (r : ℕ) → at (pointsOf s) r < primeOf s
+  unfolding pointsOf
+  points-below r = by (decLt r 32) (decLt r (boundsOf s .rows))
+    where
+      by : Dec (r < 32) → Dec (r < boundsOf s .rows) → at (pointsOf s) r < primeOf s
+      by (no large) d =
+          let e = at-past (pointsOf s) r (let n = length-tabulate 32 (λ r. cond (ltb r (boundsOf s .rows)) (pointOf s r) 0) in omega arith) in
+          let h = positive in
+          omega arith
+      by (yes small) (yes is-row) = subst (λ t. t < primeOf s) (sym (points-at s r is-row)) (W .points-in-range r is-row)
+      by (yes small) (no none) =
+          let past : boundsOf s .rows ≤ r = omega arith in
+          let e : at (pointsOf s) r ≡ 0 = at-tabulate 32 _ r small ∙ rw (le-ltb r (boundsOf s .rows) past) in
+          let h = positive in
+          omega arith
+
+  values-below : (k : ℕ) → at (valuesOf s) k < primeOf s
+  unfolding valuesOf
+  values-below k = by (decLt k 128) (decLt (k / 4) (boundsOf s .rows)) (decLt (k % 4) (boundsOf s .outputs))
+    where
+      entry : ℕ → ℕ
+      entry k = cond (ltb (k / 4) (boundsOf s .rows)) (valueOrZero s (k / 4) (k % 4)) 0
+
+      by : Dec (k < 128) → Dec (k / 4 < boundsOf s .rows) → Dec (k % 4 < boundsOf s .outputs) → at (valuesOf s) k < primeOf s
+      by (no large) d e =
+          let e = at-past (valuesOf s) k (let n = length-tabulate 128 entry in omega arith) in
+          let h = positive in
+          omega arith
+      by (yes small) (no none) e =
+          let past : boundsOf s .rows ≤ k / 4 = omega arith in
+          let e : at (valuesOf s) k ≡ 0 = at-tabulate 128 entry k small ∙ rw (le-ltb (k / 4) (boundsOf s .rows) past) in
+          let h = positive in
+          omega arith
+      by (yes small) (yes is-row) (no none) =
+          let past : boundsOf s .outputs ≤ k % 4 = omega arith in
+          let e : at (valuesOf s) k ≡ 0 = at-tabulate 128 entry k small ∙ rw (lt-ltb (k / 4) (boundsOf s .rows) is-row, le-ltb (k % 4) (boundsOf s .outputs) past) in
+          let h = positive in
+          omega arith
+      by (yes small) (yes is-row) (yes is-output) =
+          let e : at (valuesOf s) k ≡ valueOf s (k / 4) (k % 4) =
+          at-tabulate 128 entry k small ∙ rw (lt-ltb (k / 4) (boundsOf s .rows) is-row, lt-ltb (k % 4) (boundsOf s .outputs) is-output) in
+          subst (λ t. t < primeOf s) (sym e) (W .values-in-range (k / 4) (k % 4) is-row is-output)
+
+  pub sized : Sized (boundsOf s)
+  sized = record {
+    outputs = W .fields .outputs-most;
+    rows = W .fields .rows-most;
+    enough = λ i. W .enough-rows;
+  }
+
+  pub table : Table (boundsOf s) (pointsOf s) (valuesOf s)
+  table = record { points-below = points-below; values-below = values-below }
+
+  pub usable : Usable (boundsOf s) (pointsOf s) (valuesOf s)
+  usable = record {
+    sized = sized;
+    table = table;
+    distinct = λ i j l l' e.
+        (let same = W .distinct i j (omega arith) l' (sym (points-at s i (omega arith)) ∙ e ∙ points-at s j l') in omega arith);
+  }
+
+  -- what the code holds after the last output
+  abbrev pub last : Candidate
+  last = candidateAfter (boundsOf s) (pointsOf s) (valuesOf s) (boundsOf s .outputs)
+
+  abbrev pub numerators : ℕ → List ℕ
+  numerators i = numeratorAt (candidateAfter (boundsOf s) (pointsOf s) (valuesOf s) (boundsOf s .outputs)) i
+
+  abbrev pub denominator : List ℕ
+  denominator = candidateAfter (boundsOf s) (pointsOf s) (valuesOf s) (boundsOf s .outputs) .g .c
+
+  none-unsolvable : None (F (boundsOf s)) 32 (problem (boundsOf s) (pointsOf s) (valuesOf s)) → Unsolvable s
+  none-unsolvable none f g a = none _ _ (answer-means s W a)
+
+  clash : {A : Type 0} {t : Bool} → t ≡ true → t ≡ false → A
+  clash e e' = absurd (let z : _≡_ {A = ℕ} 0 1 = cc in omega arith)
+
+  good-within : Good (boundsOf s) (pointsOf s) (valuesOf s) usable (boundsOf s .outputs) last → Within s numerators denominator
+  good-within G = record { numerators = λ i li. G .fitting .numerators i; denominator = G .fitting .denominator }
+
+  -- no candidate: there is no answer
+  pub unsolvable-early : last .solvable ≡ false → Unsolvable s
+  unsolvable-early e = by (verdict (boundsOf s) (pointsOf s) (valuesOf s) usable (boundsOf s .outputs) (omega arith))
+    where
+      by : Verdict (boundsOf s) (pointsOf s) (valuesOf s) usable (boundsOf s .outputs) last → Unsolvable s
+      by (inl G) = clash (G .0) e
+      by (inr none) = none-unsolvable (none .1)
+
+  -- a candidate with few wrong rows is the answer
+  pub solved : last .solvable ≡ true → wrongCount s numerators denominator ≤ boundsOf s .errors → Answer s numerators denominator
+  solved e few = by (verdict (boundsOf s) (pointsOf s) (valuesOf s) usable (boundsOf s .outputs) (omega arith))
+    where
+      by : Verdict (boundsOf s) (pointsOf s) (valuesOf s) usable (boundsOf s .outputs) last → Answer s numerators denominator
+      by (inl G) =
+          let within = good-within (G .1) in
+          let count = count-means s W within (boundsOf s .rows) (omega arith) in
+          means-answer s W within (candidate-is-answer (F (boundsOf s)) 32 _ (G .1 .candidate) (omega arith))
+      by (inr none) = clash e (none .0)
+
+  -- a candidate with too many wrong rows: there is no answer
+  pub unsolvable-late : last .solvable ≡ true → boundsOf s .errors < wrongCount s numerators denominator → Unsolvable s
+  unsolvable-late e many = by (verdict (boundsOf s) (pointsOf s) (valuesOf s) usable (boundsOf s .outputs) (omega arith))
+    where
+      by : Verdict (boundsOf s) (pointsOf s) (valuesOf s) usable (boundsOf s .outputs) last → Unsolvable s
+      by (inl G) =
+          let count = count-means s W (good-within (G .1)) (boundsOf s .rows) (omega arith) in
+          none-unsolvable (none-if-many-wrong (F (boundsOf s)) 32 _ (G .1 .candidate) (omega arith))
+      by (inr none) = clash e (none .0)

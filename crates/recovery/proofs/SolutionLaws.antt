@@ -1,0 +1,72 @@
+-- Laws of the solver's result that the proofs of the functions share.
+use mathlib.Core.Path.{_≡_, refl, sym, _∙_, ap, ap₂, subst}
+use mathlib.Core.Bool.{Bool, true, false}
+use mathlib.Core.List.{List}
+use Prim.Native.Nat.{ℕ, _+_, _*_, _≤_, _<_}
+use native.Mathlib.Nat.{mul-le-mul}
+use native.Mathlib.Omega.{arith}
+use lib.ListN.{replicate}
+use borrow.Author.Tests.{lt-ltb, le-ltb}
+use Rattle.format.specs.declared.Bounds.{Bounds}
+use Rattle.format.specs.declared.Outcome.the-variants.{Recovered, Refused}
+use Rattle.format.specs.declared.Reason.the-variants.{NoAnswer}
+use Rattle.format.specs.Bounds.{Storable, answerLengthOf}
+use Rattle.poly.specs.declared.Poly.{Poly}
+use Rattle.poly.specs.Vectors.{zeroPoly}
+use Rattle.interpolation.specs.Pairs.{choose}
+use Rattle.candidate.specs.declared.Candidate.{Candidate}
+use Rattle.candidate.specs.Candidates.{Sized, Fitting}
+use Rattle.candidate.proofs.CandidateLaws.{numerator-low, denominator-low}
+use Rattle.answer.specs.Word.{wrongCountOf}
+use Rattle.judge.specs.Answers.{Within}
+use Rattle.recovery.specs.declared.Solution.{Solution}
+use Rattle.recovery.specs.Solutions.{unsolvedSolution, wordBy, countedSolution, judgedSolution}
+
+pub storable : {b : Bounds} → Sized b → Storable b
+storable s = record {
+  few = s .outputs;
+  denominator-low = (let h = denominator-low s in omega arith);
+  numerators-low = λ i. (let h = numerator-low s i in omega arith);
+}
+
+pub fits-judge : {b : Bounds} {c : Candidate} → Sized b → Fitting b c → Within b (c .f) (c .g)
+fits-judge s h = record { storable = storable s; denominator = h .denominator; numerators = λ i l. h .numerators i }
+
+pub short-answer : {b : Bounds} → Sized b → answerLengthOf b ≤ 1000
+short-answer {b} s =
+    let n = numerator-low s 0 in
+    let d = denominator-low s in
+    let o = s .outputs in
+    let product : b .outputs * (b .numerator + 1) ≤ 4 * 31 = mul-le-mul {n₂ = 4} {m₂ = 31} o (omega arith) in
+    omega arith
+
+pub unsolved-is : (none : Poly) → none .c ≡ zeroPoly .c
+    → _≡_ {A = Solution} (record { outcome = Refused NoAnswer 0; word = 0; g = none; f = replicate 4 none }) unsolvedSolution
+unfolding unsolvedSolution
+unsolved-is none e =
+    ap (λ (l : List ℕ). record { outcome = Refused NoAnswer 0; word = 0; g = record { c = l }; f = replicate 4 (record { c = l }) }) e
+
+module _ (b : Bounds) (points values : List ℕ) (c : Candidate) where
+  pub judged-unsolvable : c .solvable ≡ false → unsolvedSolution ≡ judgedSolution b points values c
+  unfolding judgedSolution
+  judged-unsolvable e = subst (λ t. unsolvedSolution ≡ choose t (countedSolution b points values c) unsolvedSolution) (sym e) refl
+
+  pub judged-solvable : c .solvable ≡ true → countedSolution b points values c ≡ judgedSolution b points values c
+  unfolding judgedSolution
+  judged-solvable e =
+      subst (λ t. countedSolution b points values c ≡ choose t (countedSolution b points values c) unsolvedSolution) (sym e) refl
+
+  pub counted-many : b .errors < wrongCountOf (wordBy b points values c) → unsolvedSolution ≡ countedSolution b points values c
+  unfolding countedSolution
+  counted-many many = simp (lt-ltb _ _ many)
+
+  pub counted-few : {bytes wrong word : ℕ} → bytes ≡ answerLengthOf b → word ≡ wordBy b points values c → wrong ≡ wrongCountOf word
+      → wrong ≤ b .errors
+      → _≡_ {A = Solution} (record { outcome = Recovered bytes wrong; word = word; g = c .g; f = c .f }) (countedSolution b points values c)
+  unfolding countedSolution
+  counted-few {bytes} {wrong} {word} length-is word-is count-is few =
+      let count : wrong ≡ wrongCountOf (wordBy b points values c) = count-is ∙ ap wrongCountOf word-is in
+      let few' : wrongCountOf (wordBy b points values c) ≤ b .errors = omega arith in
+      simp (le-ltb _ _ few')
+      (ap₂ (λ (n m : ℕ). record { outcome = Recovered n m; word = word; g = c .g; f = c .f }) length-is count
+      ∙ ap (λ (w : ℕ). record { outcome = Recovered (answerLengthOf b) (wrongCountOf (wordBy b points values c)); word = w; g = c .g; f = c .f }) word-is)

@@ -1,0 +1,109 @@
+use mathlib.Core.Path.{_≡_, refl, sym, _∙_, ap, subst}
+use mathlib.Core.Logic.{⊎-elim}
+use mathlib.Core.List.{List}
+use Prim.Native.Nat.{ℕ, _≤_}
+use native.Mathlib.Omega.{arith}
+use lib.ListN.{length}
+use Rattle.format.specs.declared.Outcome.the-variants.{Accepted, Recovered}
+use Rattle.format.specs.Bounds.{Storable, answerLengthOf}
+use Rattle.header.specs.Header.{boundsOf}
+use Rattle.rows.specs.Rows.{pointsOf, valuesOf}
+use Rattle.job.specs.declared.reading.Reading.{Reading}
+use Rattle.job.specs.Refusals.{WellFormed}
+use Rattle.job.proofs.Facts.{well-formed-facts}
+use Rattle.poly.specs.Vectors.{coefficientsAt}
+use Rattle.answer.specs.Bytes.{answerBytes, overwritten}
+use Rattle.candidate.specs.Candidates.{Sized, Table}
+use Rattle.recovery.specs.Solutions.{solutionFor}
+use Rattle.recovery.proofs.Settlement.{sized, table}
+use Rattle.recovery.proofs.SolutionLaws.{storable}
+use Rattle.recovery.proofs.Settling.{reading-outcome, reading-accepted, settle-early, settle-unsolved, settle-solved}
+use borrow.Author.Needs.{needs}
+use Rattle.recovery.proofs.recover.Statement.{statement}
+use Rattle.recovery.proofs.recover.Tie as tie
+
+read-requires : tie.Need-read-requires
+read-requires c κs = search needs
+
+enum-told : tie.Need-enum-told
+enum-told c = search needs
+
+-- the job and the area at the call
+abbrev job : tie.After-read → List ℕ
+job c = c .before .before .before .args .job .now
+
+abbrev area : tie.After-read → List ℕ
+area c = c .before .before .before .args .area .now
+
+returns : tie.Need-returns
+returns c =
+    settle-early (job (c .before)) (area (c .before)) (c .before .read .result) (c .before .read .ensures)
+    (λ e. ⊎-elim (λ h. omega arith) (λ h. omega arith) (rw e at (c .match .keys2)))
+
+-- past the first test the job is well formed, and its fields, points and values were read
+module _ (c : tie.After-enum-told) where
+  abbrev here : tie.After-read
+  here = c .before .before
+
+  well-formed : WellFormed (job here) (length (area here))
+  well-formed = sym (reading-outcome (job here) (area here) (here .read .result) (here .read .ensures)) ∙ c .enum-told .given .1
+
+  accepted : here .read .result
+      ≡ record { outcome = Accepted; bounds = boundsOf (job here); points = pointsOf (job here); values = valuesOf (job here) }
+  accepted = reading-accepted (job here) (area here) (here .read .result) (here .read .ensures) well-formed
+
+-- what the solver returned, from the job's own bytes
+solution : (v : tie.After-solve) → let d = v .before .before .before .before in
+    v .solve .result ≡ solutionFor (boundsOf (job (here d))) (pointsOf (job (here d))) (valuesOf (job (here d)))
+solution v = v .solve .ensures ∙ ap (λ (r : Reading). solutionFor (r .bounds) (r .points) (r .values)) (accepted (v .before .before .before .before))
+
+solve-requires : tie.Need-solve-requires
+solve-requires c κs =
+    let d = c .before .before .before in
+    let W = well-formed-facts (job (here d)) (length (area (here d))) (well-formed d) in
+    subst (λ (r : Reading). Sized (r .bounds) × Table (r .bounds) (r .points) (r .values)) (sym (accepted d)) (sized (job (here d)) W, table (job (here d)) W)
+
+enum-told-2 : tie.Need-enum-told-2
+enum-told-2 c = search needs
+
+returns-2 : tie.Need-returns-2
+returns-2 c =
+    let v = c .before in
+    let d = v .before .before .before .before in
+    settle-unsolved (job (here d)) (area (here d)) (well-formed d) (v .solve .result) (solution v)
+    (λ bytes wrong e. ⊎-elim (λ h. omega arith) (λ h. omega arith) (rw e at (c .match2 .keys2)))
+
+write-requires : tie.Need-write-requires
+write-requires c κs =
+    let v = c .before .before .before .before .before in
+    let d = v .before .before .before .before in
+    let W = well-formed-facts (job (here d)) (length (area (here d))) (well-formed d) in
+    subst (λ (r : Reading). Storable (r .bounds) × (answerLengthOf (r .bounds) ≤ length (area (here d)))) (sym (accepted d))
+    (storable (sized (job (here d)) W), W .enough-area)
+
+same-length : tie.Need-same-length
+same-length c = search needs
+
+returns-3 : tie.Need-returns-3
+returns-3 c =
+    let w = c .before .before in
+    let told = w .before .before .before .before in
+    let v = told .before .before in
+    let d = v .before .before .before .before in
+    let t = v .solve .result in
+    settle-solved (job (here d)) (area (here d)) (well-formed d) t (solution v) _ _ (told .enum-told2 .given .1) (w .write .last .0)
+    (w .write .ensures .1 ∙ ap (λ (r : Reading). overwritten (answerBytes (r .bounds) (t .word) (t .g .c) (coefficientsAt (t .f))) (area (here d))) (accepted d))
+
+pub recover-spec : {M : Type 1} → statement M
+recover-spec =
+    tie.close
+    (tie.spec
+    read-requires
+    enum-told
+    returns
+    solve-requires
+    enum-told-2
+    returns-2
+    write-requires
+    same-length
+    returns-3)

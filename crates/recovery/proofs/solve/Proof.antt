@@ -1,0 +1,92 @@
+use mathlib.Core.Path.{_≡_, ap, _∙_}
+use native.Mathlib.Omega.{arith}
+use borrow.Author.Tests.{not-true, not-false}
+use Rattle.recovery.specs.Solutions.{wordBy, judgedSolution}
+use Rattle.answer.specs.Word.{wrongCountOf}
+use Rattle.recovery.proofs.SolutionLaws.{storable, fits-judge, short-answer, judged-unsolvable, judged-solvable, counted-many, counted-few}
+use borrow.Author.Needs.{needs}
+use Rattle.recovery.proofs.solve.Statement.{statement}
+use Rattle.recovery.proofs.solve.Tie as tie
+
+after-outputs-requires : tie.Need-after-outputs-requires
+after-outputs-requires c κs = search needs
+
+unsolved-requires : tie.Need-unsolved-requires
+unsolved-requires c κs = search needs
+
+returns : tie.Need-returns
+returns c =
+    let a = c .before .before .before in
+    let g = a .before .args in
+    c .unsolved .ensures ∙ judged-unsolvable (g .b) (g .points) (g .values) (a .after-outputs .result) (not-true _ (c .before .if1 .taken))
+    ∙ ap (judgedSolution (g .b) (g .points) (g .values)) (a .after-outputs .ensures .0)
+
+wrong-rows-requires : tie.Need-wrong-rows-requires
+wrong-rows-requires c κs =
+    let a = c .before .before .before .before in
+    (omega (arith, a .before .pre .0 .rows), fits-judge (a .before .pre .0) (a .after-outputs .ensures .1))
+
+wrong-count-requires : tie.Need-wrong-count-requires
+wrong-count-requires c κs = search needs
+
+cast-if2 : tie.Need-cast-if2
+cast-if2 c = search needs
+
+unsolved-requires-2 : tie.Need-unsolved-requires-2
+unsolved-requires-2 c κs = search needs
+
+-- the word that was computed is the candidate's
+word-is : (r : tie.After-wrong-rows) → let a = r .before .before .before .before .before in let g = a .before .args in
+    r .wrong-rows .result ≡ wordBy (g .b) (g .points) (g .values) (a .after-outputs .result)
+unfolding wordBy
+word-is r = r .wrong-rows .ensures
+
+count-is : (w : tie.After-wrong-count) → let a = w .before .before .before .before .before .before in let g = a .before .args in
+    w .wrong-count .result ≡ wrongCountOf (wordBy (g .b) (g .points) (g .values) (a .after-outputs .result))
+count-is w = w .wrong-count .ensures ∙ ap wrongCountOf (word-is (w .before))
+
+returns-2 : tie.Need-returns-2
+returns-2 c =
+    let r = c .before .before .before .before in
+    let e = r .before .before .before in
+    let a = e .before .before in
+    let g = a .before .args in
+    let k = a .after-outputs .result in
+    c .unsolved2 .ensures
+    ∙ counted-many (g .b) (g .points) (g .values) k (omega (arith, c .before .if2 .taken, count-is (c .before .before .before)))
+    ∙ judged-solvable (g .b) (g .points) (g .values) k (not-false _ (e .if1 .left))
+    ∙ ap (judgedSolution (g .b) (g .points) (g .values)) (a .after-outputs .ensures .0)
+
+answer-length-requires : tie.Need-answer-length-requires
+answer-length-requires c κs = storable (c .before .before .before .before .before .before .before .before .before .pre .0)
+
+cast-bytes : tie.Need-cast-bytes
+cast-bytes c = omega (arith, c .answer-length .ensures, short-answer (c .before .before .before .before .before .before .before .before .before .before .pre .0))
+
+returns-3 : tie.Need-returns-3
+returns-3 c =
+    let w = c .before .before .before in
+    let r = w .before in
+    let e = r .before .before .before in
+    let a = e .before .before in
+    let g = a .before .args in
+    let k = a .after-outputs .result in
+    counted-few (g .b) (g .points) (g .values) k (c .answer-length .ensures) (word-is r) (w .wrong-count .ensures) (omega (arith, c .before .if2 .left))
+    ∙ judged-solvable (g .b) (g .points) (g .values) k (not-false _ (e .if1 .left))
+    ∙ ap (judgedSolution (g .b) (g .points) (g .values)) (a .after-outputs .ensures .0)
+
+pub solve-spec : {M : Type 1} → statement M
+solve-spec =
+    tie.close
+    (tie.spec
+    after-outputs-requires
+    unsolved-requires
+    returns
+    wrong-rows-requires
+    wrong-count-requires
+    cast-if2
+    unsolved-requires-2
+    returns-2
+    answer-length-requires
+    cast-bytes
+    returns-3)

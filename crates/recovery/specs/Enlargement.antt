@@ -1,0 +1,117 @@
+-- Paper 01, "What a contract here has to settle", point 5: demand 3, the enlargement rule, about any two jobs T and T'. Here s and s'
+-- are their bytes, r and after what the call for T returned and left in its area, r' and after' the same for T'.
+use mathlib.Core.Path.{_≡_}
+use mathlib.Core.Bool.{Bool, true, false, not, _&&_}
+use mathlib.Core.Logic.{_⊎_, _↔_}
+use mathlib.Core.List.{List, [], _∷_}
+use Prim.Native.Nat.{ℕ, _+_, _*_, _≤_, _<_}
+use lib.Dec.{eqb}
+use lib.ListN.{length, take, drop}
+use Rattle.format.specs.declared.Outcome.{Outcome}
+use Rattle.format.specs.declared.Outcome.the-variants.{Recovered}
+use Rattle.format.specs.Bounds.{numeratorBoundOf}
+use Rattle.poly.specs.Coefficients.{at}
+use Rattle.rows.specs.Search.{anyBelow}
+use Rattle.header.specs.Header.{boundsOf}
+use Rattle.job.specs.Refusals.{WellFormed}
+use Rattle.answer.specs.Word.{bitAt, countBelow}
+use Rattle.answer.specs.Bytes.{numberFrom, numeratorStart}
+use Rattle.recovery.specs.Answers.{Answer, wrongAt, wrongCount}
+use Rattle.recovery.specs.Recovery.{Settled}
+
+-- no coefficient of f and g stands above the job's degree bounds
+pub record Meets (s : List ℕ) (f : ℕ → List ℕ) (g : List ℕ) : Type 0 where
+  pub denominator : (k : ℕ) → boundsOf s .denominator < k → at g k ≡ 0
+  pub numerators : (i k : ℕ) → i < boundsOf s .outputs → numeratorBoundOf (boundsOf s) i < k → at (f i) k ≡ 0
+
+-- "its sheet lists the coefficients of this g and these fi", "with zeros up to its own bounds"
+pub record Lists (s after : List ℕ) (f : ℕ → List ℕ) (g : List ℕ) : Type 0 where
+  pub denominator : (k : ℕ) → k ≤ boundsOf s .denominator → numberFrom after (4 + 2 * k) ≡ at g k
+  pub numerators : (i k : ℕ) → i < boundsOf s .outputs → k ≤ numeratorBoundOf (boundsOf s) i
+      → numberFrom after (numeratorStart (boundsOf s) i + 2 * k) ≡ at (f i) k
+  pub meets : Meets s f g
+
+-- "A job is answered with f/g and k wrong rows when its call isn't refused, its sheet lists the coefficients of this g and these fi, and
+-- it returns k as the count of wrong rows"
+pub record AnsweredWith (s : List ℕ) (r : Outcome) (after : List ℕ) (f : ℕ → List ℕ) (g : List ℕ) (k : ℕ) : Type 0 where
+  pub bytes : ℕ
+  pub outcome : r ≡ Recovered bytes k
+  pub lists : Lists s after f g
+
+-- "the job is well formed and f/g is the reduced vector that demand 2 names for it, with k wrong rows"
+pub record Named (s area : List ℕ) (f : ℕ → List ℕ) (g : List ℕ) (k : ℕ) : Type 0 where
+  pub well-formed : WellFormed s (length area)
+  pub answer : Answer s f g
+  pub count : wrongCount s f g ≡ k
+
+-- "this is so exactly when .., and that belongs to the claim"
+abbrev pub AnsweredExactly : List ℕ → List ℕ → Outcome → List ℕ → Type 0
+AnsweredExactly s area r after = (f : ℕ → List ℕ) (g : List ℕ) (k : ℕ) → AnsweredWith s r after f g k ↔ Named s area f g k
+
+-- the bytes of row i
+unfoldable pub rowBytes : List ℕ → ℕ → List ℕ
+rowBytes s i = take (2 * (1 + boundsOf s .outputs)) (drop (3 + 2 * (i * (1 + boundsOf s .outputs))) s)
+
+-- row i of T stands in T' at place j: "one of its rows has the same bytes"
+abbrev pub StandsAt : List ℕ → ℕ → List ℕ → ℕ → Type 0
+StandsAt s i s' j = rowBytes s' j ≡ rowBytes s i
+
+-- T' holds every row of T, in any order
+abbrev pub HoldsRows : List ℕ → List ℕ → Type 0
+HoldsRows s s' = (i : ℕ) → i < boundsOf s .rows → (j : ℕ) × (j < boundsOf s' .rows) × StandsAt s i s' j
+
+-- equal lists of bytes
+unfoldable pub sameBytes : List ℕ → List ℕ → Bool
+sameBytes [] [] = true
+sameBytes [] (b ∷ m) = false
+sameBytes (a ∷ l) [] = false
+sameBytes (a ∷ l) (b ∷ m) = eqb a b && sameBytes l m
+
+-- "The further rows are all other rows of T'": row j of T' has the bytes of no row of T
+abbrev pub furtherRow : List ℕ → List ℕ → ℕ → Bool
+furtherRow s s' j = not (anyBelow (boundsOf s .rows) (λ i. sameBytes (rowBytes s i) (rowBytes s' j)))
+
+-- w: how many further rows are wrong for f/g
+abbrev pub furtherWrong : List ℕ → List ℕ → (ℕ → List ℕ) → List ℕ → ℕ
+furtherWrong s s' f g = countBelow (boundsOf s' .rows) (λ j. furtherRow s s' j && wrongAt s' f g j)
+
+-- the 32-bit word that an area begins with
+abbrev pub wordFrom : List ℕ → ℕ
+wordFrom area = numberFrom area 0 * 65536 + numberFrom area 2
+
+-- "a 1 at the place in T' of each row that T's word marks and of each further row that is wrong for f/g"
+abbrev pub MarkedAt : List ℕ → List ℕ → List ℕ → (ℕ → List ℕ) → List ℕ → ℕ → Type 0
+MarkedAt s after s' f g j =
+    ((i : ℕ) × (i < boundsOf s .rows) × StandsAt s i s' j × (bitAt (wordFrom after) i ≡ 1))
+    ⊎ ((furtherRow s s' j ≡ true) × (wrongAt s' f g j ≡ true))
+
+-- T' is answered with f/g exactly if k + w is at most its E; where it is, the count is k + w, and the word has a 1 at those places and
+-- "0 everywhere else"
+pub record Enlarged (s after s' : List ℕ) (r' : Outcome) (after' : List ℕ) (f : ℕ → List ℕ) (g : List ℕ) (k : ℕ) : Type 0 where
+  pub exactly : ((c : ℕ) × AnsweredWith s' r' after' f g c) ↔ (k + furtherWrong s s' f g ≤ boundsOf s' .errors)
+  pub count : (c : ℕ) → AnsweredWith s' r' after' f g c → c ≡ k + furtherWrong s s' f g
+  pub ones : (c : ℕ) → AnsweredWith s' r' after' f g c → (j : ℕ) → j < boundsOf s' .rows → MarkedAt s after s' f g j
+      → bitAt (wordFrom after') j ≡ 1
+  pub zeros : (c : ℕ) → AnsweredWith s' r' after' f g c → (j : ℕ) → j < 32
+      → ((j < boundsOf s' .rows) × MarkedAt s after s' f g j → ⊥) → bitAt (wordFrom after') j ≡ 0
+
+-- the conditions on the two jobs: the same prime and n, T' well formed, T' holds every row of T, f and g within the bounds of T'
+pub record Comparable (s s' area' : List ℕ) (f : ℕ → List ℕ) (g : List ℕ) : Type 0 where
+  pub prime : boundsOf s' .prime ≡ boundsOf s .prime
+  pub outputs : boundsOf s' .outputs ≡ boundsOf s .outputs
+  pub well-formed : WellFormed s' (length area')
+  pub holds : HoldsRows s s'
+  pub meets : Meets s' f g
+
+-- the enlargement rule
+abbrev pub EnlargementRule : List ℕ → Outcome → List ℕ → List ℕ → List ℕ → Outcome → List ℕ → Type 0
+EnlargementRule s r after s' area' r' after' =
+    (f : ℕ → List ℕ) (g : List ℕ) (k : ℕ) → AnsweredWith s r after f g k → Comparable s s' area' f g → Enlarged s after s' r' after' f g k
+
+-- demand 3 as one claim about two calls: what each settles, when each has answered its job, and the rule
+pub record TwoCalls (s area : List ℕ) (r : Outcome) (after s' area' : List ℕ) (r' : Outcome) (after' : List ℕ) : Type 0 where
+  pub first : Settled s area r after
+  pub second : Settled s' area' r' after'
+  pub first-answered : AnsweredExactly s area r after
+  pub second-answered : AnsweredExactly s' area' r' after'
+  pub enlargement : EnlargementRule s r after s' area' r' after'

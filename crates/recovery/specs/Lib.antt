@@ -1,0 +1,4 @@
+pub mod Answers
+pub mod Recovery
+pub mod Enlargement
+pub mod Solutions

@@ -1,0 +1,42 @@
+-- What the solver returns for a table of rows, as the code makes it.
+use mathlib.Core.Bool.{Bool}
+use mathlib.Core.List.{List}
+use Prim.Native.Nat.{ℕ}
+use lib.Dec.{ltb}
+use lib.ListN.{replicate}
+use Rattle.format.specs.declared.Bounds.{Bounds}
+use Rattle.format.specs.declared.Outcome.the-variants.{Recovered, Refused}
+use Rattle.format.specs.declared.Reason.the-variants.{NoAnswer}
+use Rattle.format.specs.Bounds.{answerLengthOf}
+use Rattle.poly.specs.Vectors.{zeroPoly, coefficientsAt}
+use Rattle.interpolation.specs.Pairs.{choose}
+use Rattle.candidate.specs.declared.Candidate.{Candidate}
+use Rattle.candidate.specs.Candidates.{candidateAfter}
+use Rattle.answer.specs.Word.{wordOf, wrongCountOf}
+use Rattle.judge.specs.Rows.{wrongRowAt}
+use Rattle.recovery.specs.declared.Solution.{Solution}
+
+-- refusal 8
+unfoldable pub unsolvedSolution : Solution
+unsolvedSolution = record { outcome = Refused NoAnswer 0; word = 0; g = zeroPoly; f = replicate 4 zeroPoly }
+
+-- the word of the rows that are wrong for a candidate
+unfoldable pub wordBy : Bounds → List ℕ → List ℕ → Candidate → ℕ
+wordBy b points values c = wordOf (b .rows) (wrongRowAt b points values (coefficientsAt (c .f)) (c .g .c))
+
+-- the candidate, if at most E rows are wrong for it
+unfoldable pub countedSolution : Bounds → List ℕ → List ℕ → Candidate → Solution
+countedSolution b points values c =
+    choose (ltb (b .errors) (wrongCountOf (wordBy b points values c))) unsolvedSolution
+    (record {
+      outcome = Recovered (answerLengthOf b) (wrongCountOf (wordBy b points values c));
+      word = wordBy b points values c;
+      g = c .g;
+      f = c .f;
+    })
+
+unfoldable pub judgedSolution : Bounds → List ℕ → List ℕ → Candidate → Solution
+judgedSolution b points values c = choose (c .solvable) (countedSolution b points values c) unsolvedSolution
+
+abbrev pub solutionFor : Bounds → List ℕ → List ℕ → Solution
+solutionFor b points values = judgedSolution b points values (candidateAfter b points values (b .outputs))
