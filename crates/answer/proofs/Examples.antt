@@ -1,4 +1,4 @@
--- The definitions at some of paper 01's drawings.
+-- The definitions at some of paper 01's worked examples.
 use mathlib.Core.Path.{_≡_, refl}
 use mathlib.Core.Bool.{cond}
 use mathlib.Core.List.{[], _∷_}

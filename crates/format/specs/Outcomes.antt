@@ -14,7 +14,7 @@ use Rattle.format.specs.declared.Reason.the-variants.{
 use Rattle.format.specs.declared.Outcome.{Outcome}
 use Rattle.format.specs.declared.Outcome.the-variants.{Accepted, Recovered, Refused}
 
--- the number of a refusal, paper 01, "When the rack's sheet is sent back"
+-- the number of a refusal in paper 01's table
 abbrev pub numberOf : Reason → ℕ
 numberOf TooShort = 1
 numberOf SpareBit = 2

@@ -31,7 +31,7 @@ impl Bounds {
     }
 }
 
-// Paper 01, "When the rack's sheet is sent back": the eight refusals in the order of their numbers.
+// Paper 01's table of refusals: the eight refusals in the order of their numbers.
 pub enum Reason {
     TooShort,
     SpareBit,

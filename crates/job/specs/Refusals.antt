@@ -1,4 +1,4 @@
--- Paper 01, "When the rack's sheet is sent back": the conditions 1 to 7 on the bytes s of a job and the length of the answer area.
+-- Paper 01's table of refusals: the conditions 1 to 7 on the bytes s of a job and the length of the answer area.
 use Prim.Native.Nat.{ℕ}
 use mathlib.Core.Bool.{Bool, not, _||_}
 use mathlib.Core.List.{List}
