@@ -1,33 +1,23 @@
--- Laws of the candidates that the proofs of the functions share.
+-- What the code's steps make of a candidate is what the definitions say.
 use mathlib.Core.Path.{_≡_, refl, sym, ap, ap₂, subst, _∙_}
-use mathlib.Core.Bool.{Bool, true, false, cond, _&&_}
-use mathlib.Core.List.{List, []}
-use Prim.Native.Nat.{ℕ, zero, suc, _+_, _-_, _*_, _%_, _≤_, _<_}
-use native.Mathlib.Nat.{mod-lt}
+use mathlib.Core.Bool.{Bool, true, false, _&&_}
+use mathlib.Core.List.{List}
+use Prim.Native.Nat.{ℕ, zero, suc, _+_, _≤_, _<_}
 use native.Mathlib.Numerals.{add-one}
-use native.Mathlib.Decide.{ℕ-discrete}
 use native.Mathlib.Omega.{arith}
 use lib.Dec.{ltb}
-use lib.ListN.{getD, set, replicate, length-set}
-use lib.Seq.{getD-set-same, getD-set-other}
+use lib.ListN.{set, replicate}
 use borrow.Author.Tests.{lt-ltb, le-ltb, eq-eqb, ne-eqb}
-use Rattle.field.proofs.Primality.{IsPrime}
-use Rattle.field.proofs.Moduli.{modulus-prime, modulus-positive}
 use Rattle.format.specs.declared.Bounds.{Bounds}
 use Rattle.format.specs.Bounds.{numeratorBoundOf}
 use Rattle.poly.specs.declared.Poly.{Poly}
-use Rattle.poly.specs.Coefficients.{at, tabulate, Bounded}
-use Rattle.poly.specs.Vectors.{onePoly, zeroPoly}
-use Rattle.poly.specs.Operations.{valueOf, lengthOf, productAt, productOf}
-use Rattle.poly.proofs.Lists.{at-zeros, at-past, bounded-mono, bounded-zeros, bounded-tabulate}
-use Rattle.poly.proofs.Bounds.{zero-remainder}
-use Rattle.poly.proofs.Products.{terms, terms-after, sum-zeros, bounded-product}
+use Rattle.poly.specs.Vectors.{zeroPoly}
+use Rattle.poly.specs.Operations.{lengthOf, productOf}
 use Rattle.interpolation.specs.Pairs.{choose}
 use Rattle.interpolation.specs.declared.Pair.{Pair}
-use Rattle.interpolation.proofs.PairLaws.{bounded-one}
 use Rattle.fraction.specs.LowestTerms.{numeratorOf, denominatorOf}
 use Rattle.candidate.specs.declared.Candidate.{Candidate}
-use Rattle.candidate.specs.Candidates.{Sized, primeOf, numeratorAt, Fitting, unsolvableCandidate, startCandidate, columnAt, columnOf, raisedAt, raisedBelow, withOutput, extendedOf, withFraction, nextOf, candidateAfter}
+use Rattle.candidate.specs.Candidates.{primeOf, numeratorAt, unsolvableCandidate, startCandidate, raisedAt, raisedBelow, withOutput, extendedOf, withFraction, nextOf, candidateAfter}
 
 -- both candidates that the code writes down
 pub candidate-is : (solvable : Bool) (g none : Poly) {lg : List ℕ} → g .c ≡ lg → none .c ≡ zeroPoly .c
@@ -36,82 +26,6 @@ pub candidate-is : (solvable : Bool) (g none : Poly) {lg : List ℕ} → g .c �
 candidate-is solvable g none eg en =
     ap₂ (λ (x y : Poly). record { solvable = solvable; g = x; f = replicate 4 y })
     (ap (λ (l : List ℕ). record { c = l }) eg) (ap (λ (l : List ℕ). record { c = l }) en)
-
-none-at : (n j k : ℕ) → at (getD (replicate n zeroPoly) j (record { c = [] }) .c) k ≡ 0
-none-at zero j k = refl
-none-at (suc n) zero k = at-zeros 32 k
-none-at (suc n) (suc j) k = none-at n j k
-
--- what the sizes of the bounds say of lengths
-pub numerator-low : {b : Bounds} → Sized b → (j : ℕ) → numeratorBoundOf b j ≤ 30
-numerator-low s j = let e = s .enough j in let r = s .rows in omega arith
-
-pub denominator-low : {b : Bounds} → Sized b → b .denominator + 2 * b .errors ≤ 30
-denominator-low s = let e = s .enough 0 in let r = s .rows in omega arith
-
-pub slack-low : {b : Bounds} → Sized b → b .denominator + b .errors < b .rows
-slack-low s = let e = s .enough 0 in omega arith
-
--- the column, at a row and past the rows
-module _ (p rows : ℕ) (points values : List ℕ) (i : ℕ) (g : List ℕ) where
-  pub column-is : {v r : ℕ} (l : ℕ) → l < rows → v ≡ valueOf p (at points l) g → r ≡ v * at values (l * 4 + i) % p
-      → r ≡ columnAt p rows points values i g l
-  unfolding columnAt
-  column-is l h ev er = er ∙ ap (λ (t : ℕ). t * at values (l * 4 + i) % p) ev ∙ sym (rw (lt-ltb l rows h))
-
-  pub column-past : (l : ℕ) → rows ≤ l → columnAt p rows points values i g l ≡ 0
-  unfolding columnAt
-  column-past l h = rw (le-ltb l rows h)
-
-  pub bounded-column : 0 < p → Bounded p rows (tabulate 32 (columnAt p rows points values i g))
-  unfolding columnAt
-  bounded-column positive = bounded-tabulate p rows 32 _ (λ l. by-row l (ltb l rows)) column-past
-    where
-      by-row : (l : ℕ) (t : Bool) → cond t (valueOf p (at points l) g * at values (l * 4 + i) % p) 0 < p
-      by-row l true = mod-lt _ positive
-      by-row l false = positive
-
--- a times h keeps to a bound that the sum of their lengths keeps to, also where a is zero
-pub bounded-raised : {p la lh n : ℕ} {a h : List ℕ} → 0 < p → Bounded p la a → Bounded p lh h → (0 < la → la + lh ≤ n + 1) → Bounded p n (productOf p a h)
-unfolding productOf productAt
-bounded-raised {la = zero} {a = a} {h = h} positive ba bh short =
-    bounded-tabulate _ _ 32 _ (λ k. mod-lt _ positive) (λ k _. zero-remainder _ _ (sum-zeros (suc k) (terms a h k) (λ i _. terms-after ba bh k i (omega arith))))
-bounded-raised {la = suc la} positive ba bh short = bounded-mono (bounded-product ba bh positive) (let l = short (omega arith) in omega arith)
-
--- candidates that keep to the bounds
-module _ (b : Bounds) where
-  fitting-none : (solvable : Bool) (g : Poly) → Bounded (primeOf b) (b .denominator + 1) (g .c)
-      → Fitting b (record { solvable = solvable; g = g; f = replicate 4 zeroPoly })
-  fitting-none solvable g bg = record {
-    size = refl;
-    denominator = bg;
-    numerators = λ j. record {
-      residues = λ k. let z = none-at 4 j k in let t = modulus-positive (b .prime) in omega arith;
-      within = λ k _. none-at 4 j k;
-    };
-  }
-
-  pub fitting-unsolvable : Fitting b unsolvableCandidate
-  unfolding unsolvableCandidate
-  fitting-unsolvable = fitting-none false zeroPoly (bounded-zeros _ _ 32 (modulus-positive (b .prime)))
-
-  pub fitting-start : Fitting b startCandidate
-  unfolding startCandidate
-  fitting-start = fitting-none true onePoly (bounded-mono (bounded-one _ (modulus-prime (b .prime) .two)) (omega arith))
-
-  -- another denominator, and another numerator of output j
-  pub fitting-set : {c : Candidate} → Fitting b c → (solvable : Bool) (g v : Poly) (j : ℕ) → j < 4
-      → Bounded (primeOf b) (b .denominator + 1) (g .c) → Bounded (primeOf b) (numeratorBoundOf b j + 1) (v .c)
-      → Fitting b (record { solvable = solvable; g = g; f = set (c .f) j v })
-  fitting-set {c} h solvable g v j l bg bv = record {
-    size = length-set (c .f) j v ∙ h .size;
-    denominator = bg;
-    numerators = λ k. at-place k (ℕ-discrete k j);
-  }
-    where
-      at-place : (k : ℕ) → Dec (k ≡ j) → Bounded (primeOf b) (numeratorBoundOf b k + 1) (getD (set (c .f) j v) k (record { c = [] }) .c)
-      at-place k (yes same) = rw (same, getD-set-same (c .f) j v (record { c = [] }) (let e = h .size in omega arith)) bv
-      at-place k (no other) = rw (getD-set-other (c .f) j k v (record { c = [] }) other) (h .numerators k)
 
 -- one numerator times h
 module _ (b : Bounds) (h : List ℕ) (j : ℕ) (c : Candidate) where

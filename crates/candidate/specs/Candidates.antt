@@ -1,14 +1,13 @@
 -- The candidate after each output, as the code makes it.
-use mathlib.Core.Bool.{Bool, true, false, cond, _&&_}
+use mathlib.Core.Bool.{true, false, cond, _&&_}
 use mathlib.Core.Path.{_≡_}
-use mathlib.Core.List.{List, []}
+use mathlib.Core.List.{List}
 use Prim.Native.Nat.{ℕ, zero, suc, _+_, _-_, _*_, _%_, _≤_, _<_}
 use lib.Dec.{eqb, ltb}
-use lib.ListN.{getD, set, replicate, length}
+use lib.ListN.{set, replicate, length}
 use Rattle.field.specs.Primes.{modulusOf}
 use Rattle.format.specs.declared.Bounds.{Bounds}
 use Rattle.format.specs.Bounds.{numeratorBoundOf}
-use Rattle.poly.specs.declared.Poly.{Poly}
 use Rattle.poly.specs.Coefficients.{at, tabulate, Bounded}
 use Rattle.poly.specs.Vectors.{onePoly, zeroPoly, coefficientsAt}
 use Rattle.poly.specs.Operations.{valueOf, lengthOf, productOf}
@@ -23,6 +22,7 @@ pub record Sized (b : Bounds) : Type 0 where
   pub rows : b .rows ≤ 31
   pub enough : (i : ℕ) → numeratorBoundOf b i + b .denominator + 2 * b .errors + 1 ≤ b .rows
 
+-- the prime as a number
 abbrev pub primeOf : Bounds → ℕ
 primeOf b = modulusOf (b .prime)
 
@@ -82,10 +82,11 @@ withFraction b i s c =
     choose (eqb (lengthOf (s .b .c)) 0) unsolvableCandidate
     (extendedOf b i (numeratorOf (primeOf b) (s .a .c) (s .b .c)) (denominatorOf (primeOf b) (s .a .c) (s .b .c)) c)
 
--- METHOD's B and A
+-- METHOD's B; its A is what is left of the rows less 1
 abbrev pub slackOf : Bounds → ℕ
 slackOf b = b .denominator + b .errors
 
+-- c with output i, solved from the rows
 unfoldable pub nextOf : Bounds → List ℕ → List ℕ → ℕ → Candidate → Candidate
 nextOf b points values i c =
     withFraction b i

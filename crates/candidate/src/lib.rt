@@ -1,12 +1,10 @@
 // METHOD: the outputs one after the other. After each one the candidate holds the only fractions, over their common denominator,
 // that an answer can have there; or it is known that there is no answer.
-ghost use Prim.Native.Nat.{ℕ, _+_, _-_, _*_, _≤_, _<_};
+ghost use Prim.Native.Nat.{_+_, _≤_, _<_};
 ghost use mathlib.Core.Path.{_≡_};
-ghost use mathlib.Core.Bool.{true};
 ghost use Rattle.field.specs.Primes.{modulusOf};
 ghost use Rattle.poly.specs.Coefficients.{Bounded};
 ghost use Rattle.poly.specs.Operations.{lengthOf};
-ghost use Rattle.format.specs.Bounds.{numeratorBoundOf};
 ghost use Rattle.candidate.specs.Candidates.{
   unsolvableCandidate,
   startCandidate,

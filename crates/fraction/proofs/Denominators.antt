@@ -14,9 +14,8 @@ use Rattle.poly.proofs.Lengths.{length-past}
 use Rattle.poly_meaning.proofs.Degrees.{null-length, length-means-null}
 use Rattle.euclid.specs.Division.{quotientOf, degreeOf, leadingReciprocal}
 use Rattle.euclid.specs.Euclid.{gcdOf}
-use Rattle.euclid.proofs.Leading.{Stored, stored-bounded, bounded-stored, length-stored, divisor-of, leading-inverts}
-use Rattle.euclid.proofs.Steps.{bounded-quotient, length-quotient}
-use Rattle.euclid.proofs.Euclid.{gcd-stored, gcd-zero}
+use Rattle.euclid.proofs.Leading.{Stored, stored-bounded, length-stored, divisor-of, leading-inverts}
+use Rattle.euclid.proofs.Euclid.{stored-quotient, gcd-stored, gcd-zero}
 use Rattle.euclid_meaning.proofs.Division.{exact-quotient}
 use Rattle.euclid_meaning.proofs.Euclid.{gcd-means}
 use Rattle.fraction.specs.LowestTerms.{unitOf, denominatorOf}
@@ -31,11 +30,8 @@ module _ {p : ℕ} (P : IsPrime p) {a b : List ℕ} (sa : Stored p a) (sb : Stor
   pub divisor-nonzero : lengthOf (gcdOf p a b) ≡ 0 → ⊥
   divisor-nonzero z = nonzero (gcd-zero P sa sb z .1)
 
-  pub stored-quotient : Stored p (quotientOf p b (gcdOf p a b))
-  stored-quotient =
-      let D = divisor-of P (gcd-stored P sa sb) divisor-nonzero in
-      bounded-stored (bounded-quotient D (length-stored sb) (stored-bounded sb) (sb .size))
-      (length-quotient D (length-stored sb) (stored-bounded sb) (sb .size))
+  denominator-stored : Stored p (quotientOf p b (gcdOf p a b))
+  denominator-stored = stored-quotient P sb (gcd-stored P sa sb) divisor-nonzero
 
   pub quotient-nonzero : lengthOf (quotientOf p b (gcdOf p a b)) ≡ 0 → ⊥
   quotient-nonzero z =
@@ -44,13 +40,13 @@ module _ {p : ℕ} (P : IsPrime p) {a b : List ℕ} (sa : Stored p a) (sb : Stor
       let e = C .0 .right-multiple ∙ ap (λ f. mulS (residueRing p P) f (C .0 .g')) (C .1) in
       let q = exact-quotient p P D (length-stored sb) (stored-bounded sb) (sb .size) (C .0 .g') (C .0 .g'-polynomial) e .0 in
       nonzero (null-length p P (stored-bounded sb) (C .0 .right-multiple ∙ ap (mulS (residueRing p P) (C .0 .divisor))
-      (sym q ∙ length-means-null p P (stored-bounded stored-quotient) z) ∙ mulS-null (residueRing p P) (C .0 .divisor)))
+      (sym q ∙ length-means-null p P (stored-bounded denominator-stored) z) ∙ mulS-null (residueRing p P) (C .0 .divisor)))
 
   -- the denominator's leading coefficient is 1
-  pub denominator-top : at (denominatorOf p a b) (lengthOf (quotientOf p b (gcdOf p a b)) - 1) ≡ 1
+  denominator-top : at (denominatorOf p a b) (lengthOf (quotientOf p b (gcdOf p a b)) - 1) ≡ 1
   unfolding denominatorOf unitOf scaledOf scaledAt
   denominator-top =
-      let D = divisor-of P stored-quotient quotient-nonzero in
+      let D = divisor-of P denominator-stored quotient-nonzero in
       let fits = D .fits in
       let positive = D .positive in
       at-tabulate 32 _ _ (omega arith) ∙ leading-inverts D

@@ -1,5 +1,5 @@
 // A fraction of polynomials in lowest terms.
-ghost use Prim.Native.Nat.{ℕ, _+_, _≤_, _<_};
+ghost use Prim.Native.Nat.{_≤_, _<_};
 ghost use mathlib.Core.Path.{_≡_};
 ghost use Rattle.field.specs.Primes.{modulusOf};
 ghost use Rattle.poly.specs.Coefficients.{Bounded};

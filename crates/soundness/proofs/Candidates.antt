@@ -69,7 +69,8 @@ use Rattle.candidate.specs.Candidates.{
   nextOf,
   candidateAfter,
 }
-use Rattle.candidate.proofs.CandidateLaws.{numerator-low, denominator-low, bounded-raised, fitting-start, fitting-set, raised-too-long, raised-fits}
+use Rattle.candidate.proofs.Fittings.{numerator-low, denominator-low, bounded-raised, set-same, set-other, fitting-start, fitting-set}
+use Rattle.candidate.proofs.CandidateLaws.{raised-too-long, raised-fits}
 use Rattle.soundness.proofs.Interpolation.{conditionAt, solution-means}
 use Rattle.soundness.proofs.Fraction.{FractionMeans, fraction-means}
 
@@ -105,10 +106,6 @@ module _ (b : Bounds) where
         count = b .rows;
         row = evaluation points values;
       }
-
--- what stands for a polynomial past the end of an array
-abbrev nothing : Poly
-nothing = record { c = [] }
 
 -- what the rows keep to: sizes, residues, and distinct points
 pub record Usable (b : Bounds) (points values : List ℕ) : Type 0 where
@@ -220,7 +217,7 @@ module _ (b : Bounds) (points values : List ℕ) (U : Usable b points values) wh
         solvable = H .solvable;
         same-g = H .same-g;
         done = λ k lk. done-at k lk (ℕ-discrete k j);
-        rest = λ k lk. ap (λ t. t .c) (getD-set-other (r .f) j k raised nothing (λ e. omega arith)) ∙ H .rest k (omega arith);
+        rest = λ k lk. set-other (r .f) j raised k (λ e. omega arith) ∙ H .rest k (omega arith);
         fitting = fitting-set b (H .fitting) (r .solvable) (r .g) raised j (omega (arith, i-small)) (H .fitting .denominator) bounded;
       }
         where
@@ -228,8 +225,8 @@ module _ (b : Bounds) (points values : List ℕ) (U : Usable b points values) wh
           size = let n = H .fitting .size in let k = i-small in omega arith
 
           done-at : (k : ℕ) → k < suc j → Dec (k ≡ j) → poly b (coefficientsAt (set (r .f) j raised) k) ≡ mulS (R b) (poly b (numeratorAt c k)) (poly b h)
-          done-at k lk (yes same) = rw same (ap (λ t. poly b (t .c)) (getD-set-same (r .f) j raised nothing size) ∙ product short)
-          done-at k lk (no other) = ap (λ t. poly b (t .c)) (getD-set-other (r .f) j k raised nothing other) ∙ H .done k (omega arith)
+          done-at k lk (yes same) = rw same (ap (poly b) (set-same (r .f) j raised size) ∙ product short)
+          done-at k lk (no other) = ap (poly b) (set-other (r .f) j raised k other) ∙ H .done k (omega arith)
 
           bounded : Bounded p (numeratorBoundOf b j + 1) (raised .c)
           bounded = bounded-raised positive (bounded-length (H .fitting .numerators j)) (bounded-length bh) (λ nonzero. let e = short nonzero in omega arith)
@@ -281,10 +278,10 @@ module _ (b : Bounds) (points values : List ℕ) (U : Usable b points values) wh
 
       new-at : numeratorAt new i ≡ a
       unfolding last
-      new-at = ap (λ t. t .c) (getD-set-same (r .f) i last nothing size)
+      new-at = set-same (r .f) i last size
 
       old-at : (j : ℕ) → j < i → numeratorAt new j ≡ numeratorAt r j
-      old-at j l = ap (λ t. t .c) (getD-set-other (r .f) i j last nothing (λ e. omega arith))
+      old-at j l = set-other (r .f) i last j (λ e. omega arith)
 
       g-means : poly b (product-g .c) ≡ mulS (R b) (poly b (c .g .c)) (poly b h)
       unfolding product-g

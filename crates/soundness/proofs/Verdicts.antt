@@ -27,7 +27,7 @@ use Rattle.interpolation.specs.Pairs.{PairBounded, choose, solutionOf}
 use Rattle.euclid.proofs.Leading.{Stored}
 use Rattle.candidate.specs.declared.Candidate.{Candidate}
 use Rattle.candidate.specs.Candidates.{primeOf, columnAt, columnOf, withFraction, slackOf, nextOf, candidateAfter}
-use Rattle.candidate.proofs.CandidateLaws.{denominator-low}
+use Rattle.candidate.proofs.Fittings.{denominator-low}
 use Rattle.soundness.proofs.Interpolation.{conditionAt, solution-means}
 use Rattle.soundness.proofs.Sizes.{Whole, whole-solution}
 use Rattle.soundness.proofs.Fraction.{FractionMeans, fraction-means}

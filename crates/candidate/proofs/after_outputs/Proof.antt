@@ -4,13 +4,10 @@ use Prim.Native.Nat.{_-_, _≤_}
 use native.Mathlib.Omega.{arith}
 use borrow.Author.Needs.{needs}
 use Rattle.candidate.specs.Candidates.{candidateAfter, Fitting}
-use Rattle.candidate.proofs.CandidateLaws.{fitting-start, after-none, after-more, after-stays}
+use Rattle.candidate.proofs.Fittings.{fitting-start}
+use Rattle.candidate.proofs.CandidateLaws.{after-none, after-more, after-stays}
 use Rattle.candidate.proofs.after_outputs.Statement.{statement}
 use Rattle.candidate.proofs.after_outputs.Tie as tie
-use Rattle.candidate.proofs.after_outputs.Reads as reads
-use Rattle.candidate.proofs.after_outputs.Lts as lts
-use Rattle.candidate.proofs.next.Reads as next-reads
-use Rattle.candidate.proofs.start.Reads as start-reads
 
 abbrev Inv-loop : tie.InvT-loop
 Inv-loop b points values n c₀ i₀ c i = (i ≤ n) × (c ≡ candidateAfter b points values i) × Fitting b c
@@ -18,32 +15,26 @@ Inv-loop b points values n c₀ i₀ c i = (i ≤ n) × (c ≡ candidateAfter b 
 abbrev μ-loop : tie.MeasureT-loop
 μ-loop b points values n c₀ i₀ c i = n - i
 
--- src/lib.rt:167:9
 start-requires : tie.Need-start-requires Inv-loop μ-loop
 start-requires c κs = search needs
 
--- src/lib.rt:168:5
 loop-holds : tie.Need-loop-holds Inv-loop μ-loop
 loop-holds c =
     let b = c .before .args .b in
     (omega arith, c .start .ensures ∙ after-none _ _ _, rw (c .start .ensures) (fitting-start b))
 
--- src/lib.rt:170:13
 next-requires : tie.Need-next-requires Inv-loop μ-loop
 next-requires c κs =
     let L = c .before .before in
     let pre = L .before .before .pre in
     (pre .0, pre .1, L .loop .inv .2, omega (arith, pre .0 .outputs))
 
--- src/lib.rt:168:9
 add-i : tie.Need-add-i Inv-loop μ-loop
 add-i c = omega arith
 
--- src/lib.rt:168:5
 loop-less : tie.Need-loop-less Inv-loop μ-loop
 loop-less c = omega arith
 
--- src/lib.rt:168:5
 loop-again : tie.Need-loop-again Inv-loop μ-loop
 loop-again c =
     let L = c .before .before in
@@ -53,7 +44,6 @@ loop-again c =
     (λ w. (omega arith, w .1 ∙ after-stays (g .b) (g .points) (g .values) (L .loop .i) (L .loop .inv .1) (w .0 .left), rw (w .1) (L .loop .inv .2)))
     (c .if1 .came)
 
--- src/lib.rt:162:1
 returns : tie.Need-returns Inv-loop μ-loop
 returns c =
     let L = c .before in

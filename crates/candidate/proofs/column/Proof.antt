@@ -1,17 +1,14 @@
 use mathlib.Core.Path.{_≡_, refl}
-use Prim.Native.Nat.{ℕ, _-_, _≤_}
+use Prim.Native.Nat.{_-_, _≤_}
 use native.Mathlib.Omega.{arith}
 use borrow.Author.Needs.{needs}
 use Rattle.field.specs.Primes.{modulusOf}
 use Rattle.poly.proofs.Lists.{Filled, filled-none, filled-more, filled-all}
 use Rattle.candidate.specs.Candidates.{columnAt, columnOf}
-use Rattle.candidate.proofs.CandidateLaws.{denominator-low, column-is, column-past}
+use Rattle.candidate.proofs.Columns.{column-is, column-past}
+use Rattle.candidate.proofs.Fittings.{denominator-low}
 use Rattle.candidate.proofs.column.Statement.{statement}
 use Rattle.candidate.proofs.column.Tie as tie
-use Rattle.candidate.proofs.column.Reads as reads
-use Rattle.candidate.proofs.column.Lts as lts
-use Rattle.field.proofs.product.Reads as product-reads
-use Rattle.poly.proofs.value.Reads as value-reads
 
 abbrev Inv-loop : tie.InvT-loop
 Inv-loop i g points values prime n rows r₀ l₀ r l =
@@ -20,65 +17,50 @@ Inv-loop i g points values prime n rows r₀ l₀ r l =
 abbrev μ-loop : tie.MeasureT-loop
 μ-loop i g points values prime n rows r₀ l₀ r l = rows - l
 
--- src/lib.rt:67:13
 add-n : tie.Need-add-n Inv-loop μ-loop
 add-n c = omega (arith, denominator-low (c .before .pre .0))
 
--- src/lib.rt:70:5
 loop-holds : tie.Need-loop-holds Inv-loop μ-loop
 loop-holds c = (omega arith, filled-none _ _ refl)
 
--- src/lib.rt:71:17
 mul-x : tie.Need-mul-x Inv-loop μ-loop
 mul-x c = omega arith
 
--- src/lib.rt:71:17
 array-read-x : tie.Need-array-read-x Inv-loop μ-loop
 array-read-x c = omega arith
 
--- src/lib.rt:72:24
 mul-y : tie.Need-mul-y Inv-loop μ-loop
 mul-y c = omega arith
 
--- src/lib.rt:72:24
 add-y : tie.Need-add-y Inv-loop μ-loop
 add-y c = omega arith
 
--- src/lib.rt:72:17
 mul-y-2 : tie.Need-mul-y-2 Inv-loop μ-loop
 mul-y-2 c = omega arith
 
--- src/lib.rt:72:17
 array-read-y : tie.Need-array-read-y Inv-loop μ-loop
 array-read-y c = omega arith
 
--- src/lib.rt:73:40
 value-requires : tie.Need-value-requires Inv-loop μ-loop
 value-requires c κs =
     let S = c .before .before .before in
     (omega (arith, denominator-low (S .pre .0)), S .pre .2)
 
--- src/lib.rt:73:18
 product-requires : tie.Need-product-requires Inv-loop μ-loop
 product-requires c κs = search needs
 
--- src/lib.rt:73:9
 mul-r : tie.Need-mul-r Inv-loop μ-loop
 mul-r c = omega arith
 
--- src/lib.rt:73:9
 element-write-r : tie.Need-element-write-r Inv-loop μ-loop
 element-write-r c = omega arith
 
--- src/lib.rt:70:9
 add-l : tie.Need-add-l Inv-loop μ-loop
 add-l c = omega arith
 
--- src/lib.rt:70:5
 loop-less : tie.Need-loop-less Inv-loop μ-loop
 loop-less c = omega arith
 
--- src/lib.rt:70:5
 loop-again : tie.Need-loop-again Inv-loop μ-loop
 loop-again c =
     let L = c .before .before .before in
@@ -87,12 +69,9 @@ loop-again c =
     column-is _ _ _ _ _ _ _ (omega arith) (c .before .value .ensures .0) (c .product .ensures) in
     (omega arith, filled-more (L .loop .inv .1) (c .product .result) (omega arith) value)
 
--- src/lib.rt:62:1
 returns : tie.Need-returns Inv-loop μ-loop
 unfolding columnOf
-returns c =
-    let S = c .before .before .before in
-    filled-all (c .before .loop .inv .1) (λ j l. column-past _ _ _ _ _ _ j (omega arith))
+returns c = filled-all (c .before .loop .inv .1) (λ j l. column-past _ _ _ _ _ _ j (omega arith))
 
 pub column-spec : {M : Type 1} → statement M
 column-spec =

@@ -9,18 +9,12 @@ use Rattle.poly.proofs.Lists.{bounded-mono}
 use Rattle.interpolation.specs.declared.Pair.{Pair}
 use Rattle.interpolation.specs.Pairs.{solutionOf}
 use Rattle.candidate.specs.Candidates.{columnOf, slackOf, withFraction, nextOf}
-use Rattle.candidate.proofs.CandidateLaws.{slack-low, bounded-column, fitting-unsolvable, fraction-none, fraction-some}
+use Rattle.candidate.proofs.Columns.{bounded-column}
+use Rattle.candidate.proofs.Fittings.{slack-low, fitting-unsolvable}
+use Rattle.candidate.proofs.CandidateLaws.{fraction-none, fraction-some}
 use borrow.Author.Needs.{needs}
 use Rattle.candidate.proofs.next.Statement.{statement}
 use Rattle.candidate.proofs.next.Tie as tie
-use Rattle.candidate.proofs.next.Reads as reads
-use Rattle.candidate.proofs.next.Lts as lts
-use Rattle.candidate.proofs.column.Reads as column-reads
-use Rattle.candidate.proofs.extended.Reads as extended-reads
-use Rattle.candidate.proofs.unsolvable.Reads as unsolvable-reads
-use Rattle.fraction.proofs.lowest_terms.Reads as lowest-terms-reads
-use Rattle.interpolation.proofs.solution.Reads as solution-reads
-use Rattle.poly.proofs.length.Reads as length-reads
 
 -- the pair that was computed is the one of `nextOf`
 next-is : (Q : tie.After-solution) → let g = Q .before .before .before .before .before .args in
@@ -34,25 +28,20 @@ next-is Q =
 add-slack : tie.Need-add-slack
 add-slack c = omega (arith, slack-low (c .before .before .pre .0))
 
--- src/lib.rt:147:9
 column-requires : tie.Need-column-requires
 column-requires c κs = search needs
 
--- src/lib.rt:149:61
 sub-solution : tie.Need-sub-solution
 sub-solution c = omega (arith, slack-low (c .before .before .before .before .pre .0))
 
--- src/lib.rt:149:61
 sub-solution-2 : tie.Need-sub-solution-2
 sub-solution-2 c = omega (arith, slack-low (c .before .before .before .before .pre .0))
 
--- src/lib.rt:149:9
 solution-requires : tie.Need-solution-requires
 unfolding columnOf
 solution-requires c κs =
     let S = c .before .before .before .before in
     let low = slack-low (S .pre .0) in
-    let rows = S .pre .0 .rows in
     let column : Bounded (modulusOf (S .args .b .prime)) (S .args .b .rows) (c .before .column .result .z) =
     rw (c .before .column .ensures) (bounded-column _ _ _ _ _ _ (modulus-positive (S .args .b .prime))) in
     record {
@@ -63,18 +52,15 @@ solution-requires c κs =
       z-below = column .residues;
     }
 
--- src/lib.rt:152:8
 length-requires : tie.Need-length-requires
 length-requires c κs =
     let Q = c .before .before in
     let S = Q .before .before .before .before .before in
     (omega arith, bounded-mono {m = 32} (Q .solution .ensures .1 .right) (omega (arith, S .pre .0 .rows)) .within)
 
--- src/lib.rt:153:9
 unsolvable-requires : tie.Need-unsolvable-requires
 unsolvable-requires c κs = search needs
 
--- src/lib.rt:153:9
 returns : tie.Need-returns
 returns c =
     let A = c .before .before in
@@ -85,22 +71,17 @@ returns c =
       rw (c .unsolvable .ensures) (fitting-unsolvable (g .b)),
     )
 
--- src/lib.rt:155:9
 lowest-terms-requires : tie.Need-lowest-terms-requires
 lowest-terms-requires c κs =
     let A = c .before in
     let Q = A .before .before .before in
     let S = Q .before .before .before .before .before in
-    let l = A .length .ensures .0 in
     let nz = c .if1 .left in
-    let rows = S .pre .0 .rows in
     (omega arith, bounded-mono (Q .solution .ensures .1 .left) (omega arith), bounded-mono (Q .solution .ensures .1 .right) (omega arith), omega arith)
 
--- src/lib.rt:158:5
 extended-requires : tie.Need-extended-requires
 extended-requires c κs = search needs
 
--- src/lib.rt:139:1
 returns-2 : tie.Need-returns-2
 returns-2 c =
     let T = c .before .before .before in

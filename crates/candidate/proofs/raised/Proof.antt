@@ -6,9 +6,6 @@ use Rattle.candidate.specs.Candidates.{raisedBelow, Fitting}
 use Rattle.candidate.proofs.CandidateLaws.{raised-none, raised-more, raised-stays}
 use Rattle.candidate.proofs.raised.Statement.{statement}
 use Rattle.candidate.proofs.raised.Tie as tie
-use Rattle.candidate.proofs.raised.Reads as reads
-use Rattle.candidate.proofs.raised.Lts as lts
-use Rattle.candidate.proofs.raised_at.Reads as raised-at-reads
 
 abbrev Inv-loop : tie.InvT-loop
 Inv-loop b i h lh r₀ j₀ r j = (j ≤ i) × (r ≡ raisedBelow b (h .c) j r₀) × Fitting b r
@@ -16,26 +13,21 @@ Inv-loop b i h lh r₀ j₀ r j = (j ≤ i) × (r ≡ raisedBelow b (h .c) j r�
 abbrev μ-loop : tie.MeasureT-loop
 μ-loop b i h lh r₀ j₀ r j = i - j
 
--- src/lib.rt:104:5
 loop-holds : tie.Need-loop-holds Inv-loop μ-loop
 loop-holds c = (omega arith, raised-none _ _ _, c .pre .1)
 
--- src/lib.rt:106:13
 raised-at-requires : tie.Need-raised-at-requires Inv-loop μ-loop
 raised-at-requires c κs =
     let L = c .before .before in
     let pre = L .before .pre in
     (pre .0, L .loop .inv .2, omega arith, pre .3, pre .4, pre .5)
 
--- src/lib.rt:104:9
 add-j : tie.Need-add-j Inv-loop μ-loop
 add-j c = omega arith
 
--- src/lib.rt:104:5
 loop-less : tie.Need-loop-less Inv-loop μ-loop
 loop-less c = omega arith
 
--- src/lib.rt:104:5
 loop-again : tie.Need-loop-again Inv-loop μ-loop
 loop-again c =
     let L = c .before .before in
@@ -45,7 +37,6 @@ loop-again c =
     (λ w. (omega arith, w .1 ∙ raised-stays (g .b) (g .h .c) (g .c) (L .loop .j) (L .loop .inv .1) (w .0 .left), rw (w .1) (L .loop .inv .2)))
     (c .if1 .came)
 
--- src/lib.rt:99:1
 returns : tie.Need-returns Inv-loop μ-loop
 returns c =
     let L = c .before in

@@ -5,15 +5,10 @@ use native.Mathlib.Omega.{arith}
 use Rattle.field.proofs.Moduli.{modulus-positive}
 use Rattle.poly.proofs.Lengths.{bounded-length}
 use borrow.Author.Needs.{needs}
-use Rattle.candidate.proofs.CandidateLaws.{numerator-low, bounded-raised, fitting-unsolvable, fitting-set, raised-too-long, raised-fits}
+use Rattle.candidate.proofs.Fittings.{numerator-low, bounded-raised, fitting-unsolvable, fitting-set}
+use Rattle.candidate.proofs.CandidateLaws.{raised-too-long, raised-fits}
 use Rattle.candidate.proofs.raised_at.Statement.{statement}
 use Rattle.candidate.proofs.raised_at.Tie as tie
-use Rattle.candidate.proofs.raised_at.Reads as reads
-use Rattle.candidate.proofs.raised_at.Lts as lts
-use Rattle.candidate.proofs.unsolvable.Reads as unsolvable-reads
-use Rattle.format.proofs.Bounds.numerator_bound.Reads as numerator-bound-reads
-use Rattle.poly.proofs.length.Reads as length-reads
-use Rattle.poly.proofs.product.Reads as product-reads
 
 -- after the tests the product keeps to the bound, where the numerator is not zero
 short : (J : tie.Joined1) → let A = J .before in 0 < A .length .result
@@ -23,87 +18,68 @@ short J = ⊎-elim (λ w l. omega arith) (λ w l. omega arith) (J .if1 .came)
 numerator-bound-requires : tie.Need-numerator-bound-requires
 numerator-bound-requires c κs = search needs
 
--- src/lib.rt:85:13
 mul-f : tie.Need-mul-f
 mul-f c = search needs
 
--- src/lib.rt:85:13
 element-copy-out-f : tie.Need-element-copy-out-f
 element-copy-out-f c = search needs
 
--- src/lib.rt:86:26
 add-length : tie.Need-add-length
 add-length c = omega (arith, numerator-low (c .before .before .pre .0) (c .before .before .args .j))
 
--- src/lib.rt:86:9
 length-requires : tie.Need-length-requires
 length-requires c κs =
     let S = c .before .before in
-    let n = c .before .numerator-bound .ensures in
     (omega (arith, numerator-low (S .pre .0) (S .args .j)), λ k l. S .pre .1 .numerators (S .args .j) .within k (omega arith))
 
--- src/lib.rt:88:12
 add-if2 : tie.Need-add-if2
 add-if2 c =
     let S = c .before .before .before .before in
-    let n = c .before .before .before .numerator-bound .ensures in
     omega (arith, numerator-low (S .pre .0) (S .args .j))
 
--- src/lib.rt:88:24
 add-if2-2 : tie.Need-add-if2-2
 add-if2-2 c =
     let S = c .before .before .before .before in
-    let n = c .before .before .before .numerator-bound .ensures in
     omega (arith, numerator-low (S .pre .0) (S .args .j))
 
--- src/lib.rt:89:13
 unsolvable-requires : tie.Need-unsolvable-requires
 unsolvable-requires c κs = search needs
 
--- src/lib.rt:89:13
 returns : tie.Need-returns
 returns c =
     let A = c .before .before .before in
     let S = A .before .before .before in
-    let n = A .before .before .numerator-bound .ensures in
-    let l = A .length .ensures .0 in
-    let h = S .pre .3 in (
+    let l = A .length .ensures .0 in (
       c .unsolvable .ensures ∙ raised-too-long (S .args .b) (S .args .h .c) (S .args .j) (S .args .t2) (omega arith) (omega arith),
       rw (c .unsolvable .ensures) (fitting-unsolvable (S .args .b)),
     )
 
--- src/lib.rt:93:9
 product-requires : tie.Need-product-requires
 product-requires c κs =
     let A = c .before in
     let S = A .before .before .before in
-    let n = A .before .before .numerator-bound .ensures in
     let low = numerator-low (S .pre .0) (S .args .j) in (
       ⊎-elim (λ w. omega arith) (λ w. omega arith) (c .if1 .came),
       rw (A .length .ensures .0) (bounded-length (S .pre .1 .numerators (S .args .j))),
       S .pre .5,
     )
 
--- src/lib.rt:94:5
 mul-product : tie.Need-mul-product
 mul-product c = search needs
 
--- src/lib.rt:94:5
 element-set-from-product : tie.Need-element-set-from-product
 element-set-from-product c = search needs
 
--- src/lib.rt:79:1
 returns-2 : tie.Need-returns-2
 returns-2 c =
     let A = c .before .before in
     let S = A .before .before .before in
-    let n = A .before .before .numerator-bound .ensures in
     let l = A .length .ensures .0 in
-    let h = S .pre .3 in
+    let e = c .product .ensures .0 in
     let s = short (c .before) in (
-      raised-fits (S .args .b) (S .args .h .c) (S .args .j) (S .args .t2) (c .product .result) (λ p. let t = s (omega arith) in omega arith) (c .product .ensures .0),
+      raised-fits (S .args .b) (S .args .h .c) (S .args .j) (S .args .t2) (c .product .result) (λ p. let t = s (omega arith) in omega arith) e,
       fitting-set (S .args .b) (S .pre .1) _ _ (c .product .result) (S .args .j) (omega arith) (S .pre .1 .denominator)
-          (rw (c .product .ensures .0) (bounded-raised (modulus-positive (S .args .b .prime))
+          (rw e (bounded-raised (modulus-positive (S .args .b .prime))
           (bounded-length (S .pre .1 .numerators (S .args .j))) (S .pre .5) (λ p. let t = s (omega arith) in omega arith))),
     )
 

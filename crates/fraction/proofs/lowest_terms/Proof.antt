@@ -1,11 +1,11 @@
-use native.Mathlib.Omega.{arith}
-use Rattle.poly.proofs.Lists.{bounded-mono}
-use Rattle.poly.proofs.Lengths.{bounded-length}
 use mathlib.Core.Path.{_≡_, ap, ap₂, _∙_}
 use Prim.Native.Nat.{_<_}
+use native.Mathlib.Omega.{arith}
 use Rattle.field.specs.Primes.{modulusOf}
 use Rattle.field.proofs.Moduli.{modulus-prime}
 use Rattle.poly.specs.Operations.{scaledOf, lengthOf}
+use Rattle.poly.proofs.Lists.{bounded-mono}
+use Rattle.poly.proofs.Lengths.{bounded-length}
 use Rattle.euclid.specs.Division.{quotientOf}
 use Rattle.euclid.specs.Euclid.{gcdOf}
 use Rattle.euclid.proofs.Leading.{Stored, bounded-stored}
@@ -14,14 +14,8 @@ use Rattle.fraction.proofs.Denominators.{unit-is, divisor-nonzero, quot
 use borrow.Author.Needs.{needs}
 use Rattle.fraction.proofs.lowest_terms.Statement.{statement}
 use Rattle.fraction.proofs.lowest_terms.Tie as tie
-use Rattle.fraction.proofs.lowest_terms.Reads as reads
-use Rattle.fraction.proofs.lowest_terms.Lts as lts
-use Rattle.euclid.proofs.divide.Reads as divide-reads
-use Rattle.euclid.proofs.gcd.Reads as gcd-reads
-use Rattle.field.proofs.reciprocal.Reads as reciprocal-reads
-use Rattle.poly.proofs.length.Reads as length-reads
-use Rattle.poly.proofs.scaled.Reads as scaled-reads
 
+-- what the function began with
 stored-phi : (S : tie.Start) → Stored (modulusOf (S .args .q)) (S .args .phi .c)
 stored-phi S = bounded-stored (S .pre .1) (search needs)
 
@@ -39,14 +33,14 @@ common-length D =
     let e = D .length3 .ensures .0 ∙ ap lengthOf (D .before .gcd .ensures .0) in
     omega arith
 
--- psi divided by it, as the code has it
+-- psi divided by it, as the code has it ..
 quotient-is : (Q : tie.After-divide2) → let g = Q .before .before .before .before .before .before .args in
     Q .divide2 .result .quotient .c ≡ quotientOf (modulusOf (g .q)) (g .psi .c) (gcdOf (modulusOf (g .q)) (g .phi .c) (g .psi .c))
 quotient-is Q =
     let g = Q .before .before .before .before .before .before .args in
     Q .divide2 .ensures .0 ∙ ap (quotientOf (modulusOf (g .q)) (g .psi .c)) (Q .before .before .before .gcd .ensures .0)
 
--- is not zero
+-- .. is not zero
 quotient-length : (H : tie.After-length4) → 0 < H .length4 .result
 quotient-length H =
     let Q = H .before .before .before in
@@ -55,25 +49,20 @@ quotient-length H =
     let e = H .length4 .ensures .0 ∙ ap lengthOf (quotient-is Q) in
     omega arith
 
--- src/lib.rt:24:9
 length-requires : tie.Need-length-requires
 length-requires c κs = search needs
 
--- src/lib.rt:25:9
 length-requires-2 : tie.Need-length-requires-2
 length-requires-2 c κs = search needs
 
--- src/lib.rt:26:9
 gcd-requires : tie.Need-gcd-requires
 gcd-requires c κs =
     let pre = c .before .before .pre in
     (omega arith, rw (c .before .length .ensures .0) (bounded-length (pre .1)), c .length2 .ensures .0, rw (c .length2 .ensures .0) (bounded-length (pre .2)))
 
--- src/lib.rt:27:9
 length-requires-3 : tie.Need-length-requires-3
 length-requires-3 c κs = (omega arith, λ k l. c .gcd .ensures .1 .within k (omega arith))
 
--- src/lib.rt:28:9
 divide-requires : tie.Need-divide-requires
 divide-requires c κs =
     let S = c .before .before .before .before in (
@@ -84,7 +73,6 @@ divide-requires c κs =
       rw (c .length3 .ensures .0) (bounded-length (c .before .gcd .ensures .1)),
     )
 
--- src/lib.rt:29:9
 divide-requires-2 : tie.Need-divide-requires-2
 divide-requires-2 c κs =
     let S = c .before .before .before .before .before in (
@@ -95,39 +83,31 @@ divide-requires-2 c κs =
       rw (c .before .length3 .ensures .0) (bounded-length (c .before .before .gcd .ensures .1)),
     )
 
--- src/lib.rt:32:9
 length-requires-4 : tie.Need-length-requires-4
 length-requires-4 c κs = (omega arith, λ k l. c .before .before .divide2 .ensures .1 .within k (omega (arith, common-length (c .before .before .before .before))))
 
--- src/lib.rt:33:48
 sub-reciprocal : tie.Need-sub-reciprocal
 sub-reciprocal c = quotient-length c
 
--- src/lib.rt:33:34
 mul-reciprocal : tie.Need-mul-reciprocal
 mul-reciprocal c = search needs
 
--- src/lib.rt:33:34
 element-copy-out-reciprocal : tie.Need-element-copy-out-reciprocal
 element-copy-out-reciprocal c = search needs
 
--- src/lib.rt:33:9
 reciprocal-requires : tie.Need-reciprocal-requires
 reciprocal-requires c κs = search needs
 
--- src/lib.rt:35:20
 scaled-requires : tie.Need-scaled-requires
 scaled-requires c κs =
     let Q = c .before .before .before .before .before in
     (omega arith, bounded-mono (Q .before .divide .ensures .1) (omega (arith, common-length (Q .before .before))))
 
--- src/lib.rt:36:22
 scaled-requires-2 : tie.Need-scaled-requires-2
 scaled-requires-2 c κs =
     let Q = c .before .before .before .before .before .before in
     (omega arith, bounded-mono (Q .divide2 .ensures .1) (omega (arith, common-length (Q .before .before))))
 
--- src/lib.rt:17:1
 returns : tie.Need-returns
 unfolding numeratorOf denominatorOf
 returns c =

@@ -1,0 +1,31 @@
+-- The right-hand sides of one output's conditions, row by row.
+use mathlib.Core.Path.{_≡_, sym, ap, _∙_}
+use mathlib.Core.Bool.{Bool, true, false, cond}
+use mathlib.Core.List.{List}
+use Prim.Native.Nat.{ℕ, _+_, _*_, _%_, _≤_, _<_}
+use native.Mathlib.Nat.{mod-lt}
+use lib.Dec.{ltb}
+use borrow.Author.Tests.{lt-ltb, le-ltb}
+use Rattle.poly.specs.Coefficients.{at, tabulate, Bounded}
+use Rattle.poly.specs.Operations.{valueOf}
+use Rattle.poly.proofs.Lists.{bounded-tabulate}
+use Rattle.candidate.specs.Candidates.{columnAt}
+
+-- the column, at a row and past the rows
+module _ (p rows : ℕ) (points values : List ℕ) (i : ℕ) (g : List ℕ) where
+  pub column-is : {v r : ℕ} (l : ℕ) → l < rows → v ≡ valueOf p (at points l) g → r ≡ v * at values (l * 4 + i) % p
+      → r ≡ columnAt p rows points values i g l
+  unfolding columnAt
+  column-is l h ev er = er ∙ ap (λ (t : ℕ). t * at values (l * 4 + i) % p) ev ∙ sym (rw (lt-ltb l rows h))
+
+  pub column-past : (l : ℕ) → rows ≤ l → columnAt p rows points values i g l ≡ 0
+  unfolding columnAt
+  column-past l h = rw (le-ltb l rows h)
+
+  pub bounded-column : 0 < p → Bounded p rows (tabulate 32 (columnAt p rows points values i g))
+  unfolding columnAt
+  bounded-column positive = bounded-tabulate p rows 32 _ (λ l. by-row l (ltb l rows)) column-past
+    where
+      by-row : (l : ℕ) (t : Bool) → cond t (valueOf p (at points l) g * at values (l * 4 + i) % p) 0 < p
+      by-row l true = mod-lt _ positive
+      by-row l false = positive

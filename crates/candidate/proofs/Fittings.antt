@@ -1,0 +1,86 @@
+-- Polynomials that keep to the bounds of a job, in candidates and in products.
+use mathlib.Core.Path.{_≡_, refl, sym, ap, subst, _∙_}
+use mathlib.Core.Bool.{Bool, true, false}
+use mathlib.Core.List.{List, []}
+use Prim.Native.Nat.{ℕ, zero, suc, _+_, _*_, _≤_, _<_}
+use native.Mathlib.Nat.{mod-lt}
+use native.Mathlib.Decide.{ℕ-discrete}
+use native.Mathlib.Omega.{arith}
+use lib.ListN.{length, set, replicate, length-set}
+use lib.Seq.{getD-set-same, getD-set-other}
+use Rattle.field.proofs.Moduli.{modulus-prime, modulus-positive}
+use Rattle.format.specs.declared.Bounds.{Bounds}
+use Rattle.format.specs.Bounds.{numeratorBoundOf}
+use Rattle.poly.specs.declared.Poly.{Poly}
+use Rattle.poly.specs.Coefficients.{Bounded}
+use Rattle.poly.specs.Vectors.{onePoly, zeroPoly, coefficientsAt}
+use Rattle.poly.specs.Operations.{productAt, productOf}
+use Rattle.poly.proofs.Lists.{bounded-mono, bounded-zeros, bounded-tabulate}
+use Rattle.poly.proofs.Bounds.{zero-remainder}
+use Rattle.poly.proofs.Products.{terms, terms-after, sum-zeros, bounded-product}
+use Rattle.interpolation.proofs.PairLaws.{bounded-one}
+use Rattle.candidate.specs.declared.Candidate.{Candidate}
+use Rattle.candidate.specs.Candidates.{Sized, primeOf, Fitting, unsolvableCandidate, startCandidate}
+
+-- what the sizes of the bounds say of lengths
+pub numerator-low : {b : Bounds} → Sized b → (j : ℕ) → numeratorBoundOf b j ≤ 30
+numerator-low s j = let e = s .enough j in let r = s .rows in omega arith
+
+pub denominator-low : {b : Bounds} → Sized b → b .denominator + 2 * b .errors ≤ 30
+denominator-low s = let e = s .enough 0 in let r = s .rows in omega arith
+
+pub slack-low : {b : Bounds} → Sized b → b .denominator + b .errors < b .rows
+slack-low s = let e = s .enough 0 in omega arith
+
+-- a times h keeps to a bound that the sum of their lengths keeps to, also where a is zero
+pub bounded-raised : {p la lh n : ℕ} {a h : List ℕ} → 0 < p → Bounded p la a → Bounded p lh h → (0 < la → la + lh ≤ n + 1) → Bounded p n (productOf p a h)
+unfolding productOf productAt
+bounded-raised {la = zero} {a = a} {h = h} positive ba bh short =
+    bounded-tabulate _ _ 32 _ (λ k. mod-lt _ positive) (λ k _. zero-remainder _ _ (sum-zeros (suc k) (terms a h k) (λ i _. terms-after ba bh k i (omega arith))))
+bounded-raised {la = suc la} positive ba bh short = bounded-mono (bounded-product ba bh positive) (let l = short (omega arith) in omega arith)
+
+-- the polynomials of an array, one of them set
+module _ (f : List Poly) (j : ℕ) (v : Poly) where
+  pub set-same : j < length f → coefficientsAt (set f j v) j ≡ v .c
+  set-same l = ap (λ (t : Poly). t .c) (getD-set-same f j v (record { c = [] }) l)
+
+  pub set-other : (k : ℕ) → (k ≡ j → ⊥) → coefficientsAt (set f j v) k ≡ coefficientsAt f k
+  set-other k other = ap (λ (t : Poly). t .c) (getD-set-other f j k v (record { c = [] }) other)
+
+-- every numerator where there is none yet
+bounded-none : (p m n j : ℕ) → 0 < p → Bounded p m (coefficientsAt (replicate n zeroPoly) j)
+bounded-none p m zero j positive = bounded-zeros p m 0 positive
+bounded-none p m (suc n) zero positive = bounded-zeros p m 32 positive
+bounded-none p m (suc n) (suc j) positive = bounded-none p m n j positive
+
+-- candidates that keep to the bounds
+module _ (b : Bounds) where
+  fitting-none : (solvable : Bool) (g : Poly) → Bounded (primeOf b) (b .denominator + 1) (g .c)
+      → Fitting b (record { solvable = solvable; g = g; f = replicate 4 zeroPoly })
+  fitting-none solvable g bg = record {
+    size = refl;
+    denominator = bg;
+    numerators = λ j. bounded-none _ _ 4 j (modulus-positive (b .prime));
+  }
+
+  pub fitting-unsolvable : Fitting b unsolvableCandidate
+  unfolding unsolvableCandidate
+  fitting-unsolvable = fitting-none false zeroPoly (bounded-zeros _ _ 32 (modulus-positive (b .prime)))
+
+  pub fitting-start : Fitting b startCandidate
+  unfolding startCandidate
+  fitting-start = fitting-none true onePoly (bounded-mono (bounded-one _ (modulus-prime (b .prime) .two)) (omega arith))
+
+  -- another denominator, and another numerator of output j
+  pub fitting-set : {c : Candidate} → Fitting b c → (solvable : Bool) (g v : Poly) (j : ℕ) → j < 4
+      → Bounded (primeOf b) (b .denominator + 1) (g .c) → Bounded (primeOf b) (numeratorBoundOf b j + 1) (v .c)
+      → Fitting b (record { solvable = solvable; g = g; f = set (c .f) j v })
+  fitting-set {c} h solvable g v j l bg bv = record {
+    size = length-set (c .f) j v ∙ h .size;
+    denominator = bg;
+    numerators = λ k. at-place k (ℕ-discrete k j);
+  }
+    where
+      at-place : (k : ℕ) → Dec (k ≡ j) → Bounded (primeOf b) (numeratorBoundOf b k + 1) (coefficientsAt (set (c .f) j v) k)
+      at-place k (yes same) = rw same (subst (Bounded _ _) (sym (set-same (c .f) j v (let e = h .size in omega arith))) bv)
+      at-place k (no other) = subst (Bounded _ _) (sym (set-other (c .f) j v k other)) (h .numerators k)
