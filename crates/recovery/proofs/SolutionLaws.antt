@@ -16,7 +16,7 @@ use Rattle.poly.specs.Vectors.{zeroPoly}
 use Rattle.interpolation.specs.Pairs.{choose}
 use Rattle.candidate.specs.declared.Candidate.{Candidate}
 use Rattle.candidate.specs.Candidates.{Sized, Fitting}
-use Rattle.candidate.proofs.CandidateLaws.{numerator-low, denominator-low}
+use Rattle.candidate.proofs.Fittings.{numerator-low, denominator-low}
 use Rattle.answer.specs.Word.{wrongCountOf}
 use Rattle.judge.specs.Answers.{Within}
 use Rattle.recovery.specs.declared.Solution.{Solution}
