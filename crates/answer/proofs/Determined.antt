@@ -3,9 +3,10 @@ use Prim.Native.Nat.{ℕ, _+_, _*_, _^_, _≤_, _<_}
 use mathlib.Core.Path.{_≡_, sym, ap, _∙_}
 use mathlib.Core.List.{List, []}
 use lib.ListN.{getD}
+use Rattle.format.specs.Numbers.{numberFrom}
 use Rattle.format.specs.declared.Bounds.{Bounds}
 use Rattle.format.specs.Bounds.{numeratorBoundOf}
-use Rattle.answer.specs.Bytes.{answerBytes, numeratorStart, numberFrom, overwritten}
+use Rattle.answer.specs.Bytes.{answerBytes, numeratorStart, overwritten}
 use Rattle.answer.proofs.Reading.{SixteenBits, read-word, read-denominator, read-numerator}
 
 -- the same word, the same g and the same f1 to fn, as far as the bounds go

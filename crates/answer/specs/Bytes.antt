@@ -33,10 +33,6 @@ unfoldable pub numeratorStart : Bounds → ℕ → ℕ
 numeratorStart b zero = 4 + 2 * (b .denominator + 1)
 numeratorStart b (suc i) = numeratorStart b i + 2 * (numeratorBoundOf b i + 1)
 
--- the 16-bit number at bytes k and k + 1
-abbrev pub numberFrom : List ℕ → ℕ → ℕ
-numberFrom s k = getD s k 0 * 256 + getD s (k + 1) 0
-
 -- "Bytes of the answer area behind it keep their contents"
 abbrev pub overwritten : List ℕ → List ℕ → List ℕ
 overwritten new old = new ++ drop (length new) old

@@ -55,14 +55,14 @@ module _ (s : List ℕ) {area : ℕ} (W : WellFormedFacts s area) where
     value-f : (i : ℕ) → i < boundsOf s .outputs → (x : ℕ) → ρ (valueOf p x (f i)) ≡ value (R (boundsOf s)) 32 (fs i) (ρ x)
     value-f i li x = value-means-bounded p (P (boundsOf s)) 32 x (within .numerators i li) (let n = W .fields .numerator-most in omega arith)
 
-    value-g : (x : ℕ) → ρ (valueOf p x g) ≡ value (R (boundsOf s)) 32 gs (ρ x)
+    pub value-g : (x : ℕ) → ρ (valueOf p x g) ≡ value (R (boundsOf s)) 32 gs (ρ x)
     value-g x = value-means-bounded p (P (boundsOf s)) 32 x (within .denominator) (let n = W .fields .denominator-most in omega arith)
 
     -- the right side of a row's condition
     right-side : (x y : ℕ) → ρ (valueOf p x g * y % p) ≡ R (boundsOf s) .mul (value (R (boundsOf s)) 32 gs (ρ x)) (ρ y)
     right-side x y = residue-mod p (P (boundsOf s)) _ ∙ sym (residue-mul p (P (boundsOf s)) _ y) ∙ ap (λ t. R (boundsOf s) .mul t (ρ y)) (value-g x)
 
-    right-means : (r : ℕ) → r < boundsOf s .rows → wrongAt s f g r ≡ false → Right (F (boundsOf s)) 32 (boundsOf s .outputs) fs gs (row r)
+    pub right-means : (r : ℕ) → r < boundsOf s .rows → wrongAt s f g r ≡ false → Right (F (boundsOf s)) 32 (boundsOf s .outputs) fs gs (row r)
     right-means r lr e i li =
         rw (points-at s r lr, values-at s r i lr li)
         (sym (value-f i li (pointOf s r)) ∙ ap ρ (right-all p (pointOf s r) (valueAt s r) f g (boundsOf s .outputs) e i li) ∙ right-side (pointOf s r) (valueAt s r i))

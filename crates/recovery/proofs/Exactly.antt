@@ -6,6 +6,7 @@ use Prim.Native.Nat.{ℕ, _+_, _*_, _≤_, _<_, _^_}
 use native.Mathlib.Decide.{decLe}
 use native.Mathlib.Omega.{arith}
 use lib.ListN.{length}
+use Rattle.format.specs.Numbers.{numberFrom, wordFrom}
 use Rattle.field.proofs.Moduli.{modulus-small}
 use Rattle.format.specs.declared.Outcome.{Outcome}
 use Rattle.format.specs.declared.Outcome.the-variants.{Accepted, Recovered, Refused}
@@ -31,12 +32,12 @@ use Rattle.job.specs.Refusals.{
 }
 use Rattle.job.proofs.Facts.{well-formed-facts}
 use Rattle.answer.specs.Word.{wordOf}
-use Rattle.answer.specs.Bytes.{numberFrom, numeratorStart}
+use Rattle.answer.specs.Bytes.{numeratorStart}
 use Rattle.answer.proofs.Words.{word-lt, word-same}
 use Rattle.answer.proofs.Reading.{SixteenBits, read-word, read-denominator, read-numerator}
 use Rattle.recovery.specs.Answers.{primeOf, wrongAt, wrongCount, Within, Answer}
 use Rattle.recovery.specs.Recovery.{wordFor, recoveredOutcome, recoveredArea, RefusedEarly, Answered, RefusedUnsolvable, Settled}
-use Rattle.recovery.specs.Enlargement.{Meets, Lists, AnsweredWith, Named, AnsweredExactly, wordFrom}
+use Rattle.recovery.specs.Enlargement.{Meets, Lists, AnsweredWith, Named, AnsweredExactly}
 use Rattle.recovery.proofs.SameFractions.{Same, same-back, wrong-at-same, wrong-count-same, answer-same, at-most-one}
 
 -- the tests before 8 never answer a job

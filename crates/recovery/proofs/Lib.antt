@@ -9,3 +9,4 @@ pub mod Exactly
 pub mod RowBytes
 pub mod Enlarging
 pub mod Rule
+pub mod Laws

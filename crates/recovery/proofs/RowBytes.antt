@@ -8,9 +8,10 @@ use lib.Dec.{eqb}
 use lib.ListN.{getD, take, drop}
 use lib.Seq.{getD-take, getD-drop}
 use borrow.Author.Tests.{eqb-true, eq-eqb}
+use Rattle.format.specs.Numbers.{numberFrom}
 use Rattle.field.specs.Primes.{modulusOf}
 use Rattle.header.specs.Header.{boundsOf}
-use Rattle.rows.specs.Rows.{numberFrom, numberAt, pointOf, valueOf}
+use Rattle.rows.specs.Rows.{numberAt, pointOf, valueOf}
 use Rattle.judge.specs.Rows.{wrongRow}
 use Rattle.judge.proofs.Rows.{wrong-same}
 use Rattle.recovery.specs.Answers.{primeOf, wrongAt}

@@ -7,6 +7,7 @@ use Prim.Native.Nat.{ℕ, _+_, _≤_, _<_}
 use native.Mathlib.Decide.{ℕ-discrete}
 use native.Mathlib.Omega.{arith}
 use lib.ListN.{length}
+use Rattle.format.specs.Numbers.{wordFrom}
 use Rattle.format.specs.declared.Outcome.{Outcome}
 use Rattle.format.specs.Bounds.{numeratorBoundOf}
 use Rattle.field.specs.Primes.{modulusOf}
@@ -17,7 +18,7 @@ use Rattle.answer.specs.Word.{bitAt}
 use Rattle.answer.proofs.Words.{bit-exactly}
 use Rattle.recovery.specs.Answers.{primeOf, wrongAt, wrongCount, Within, Reduced, Answer}
 use Rattle.recovery.specs.Recovery.{Settled}
-use Rattle.recovery.specs.Enlargement.{AnsweredWith, Named, StandsAt, furtherRow, furtherWrong, wordFrom, MarkedAt, Enlarged, Comparable, EnlargementRule}
+use Rattle.recovery.specs.Enlargement.{AnsweredWith, Named, StandsAt, furtherRow, furtherWrong, MarkedAt, Enlarged, Comparable, EnlargementRule}
 use Rattle.recovery.proofs.RowBytes.{same-wrong}
 use Rattle.recovery.proofs.Exactly.{answered-named, named-answered, answered-word}
 use Rattle.recovery.proofs.Enlarging.{wrong-adds, old-or-new}

@@ -7,6 +7,7 @@ use mathlib.Core.List.{List, [], _∷_}
 use Prim.Native.Nat.{ℕ, _+_, _*_, _≤_, _<_}
 use lib.Dec.{eqb}
 use lib.ListN.{length, take, drop}
+use Rattle.format.specs.Numbers.{numberFrom, wordFrom}
 use Rattle.format.specs.declared.Outcome.{Outcome}
 use Rattle.format.specs.declared.Outcome.the-variants.{Recovered}
 use Rattle.format.specs.Bounds.{numeratorBoundOf}
@@ -15,7 +16,7 @@ use Rattle.rows.specs.Search.{anyBelow}
 use Rattle.header.specs.Header.{boundsOf}
 use Rattle.job.specs.Refusals.{WellFormed}
 use Rattle.answer.specs.Word.{bitAt, countBelow}
-use Rattle.answer.specs.Bytes.{numberFrom, numeratorStart}
+use Rattle.answer.specs.Bytes.{numeratorStart}
 use Rattle.recovery.specs.Answers.{Answer, wrongAt, wrongCount}
 use Rattle.recovery.specs.Recovery.{Settled}
 
@@ -74,10 +75,6 @@ furtherRow s s' j = not (anyBelow (boundsOf s .rows) (λ i. sameBytes (rowBytes 
 -- w: how many further rows are wrong for f/g
 abbrev pub furtherWrong : List ℕ → List ℕ → (ℕ → List ℕ) → List ℕ → ℕ
 furtherWrong s s' f g = countBelow (boundsOf s' .rows) (λ j. furtherRow s s' j && wrongAt s' f g j)
-
--- the 32-bit word that an area begins with
-abbrev pub wordFrom : List ℕ → ℕ
-wordFrom area = numberFrom area 0 * 65536 + numberFrom area 2
 
 -- "a 1 at the place in T' of each row that T's word marks and of each further row that is wrong for f/g"
 abbrev pub MarkedAt : List ℕ → List ℕ → List ℕ → (ℕ → List ℕ) → List ℕ → ℕ → Type 0

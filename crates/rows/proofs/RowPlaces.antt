@@ -10,8 +10,9 @@ use borrow.Author.Tests.{lt-ltb, le-ltb}
 use lib.Dec.{ltb}
 use lib.ListN.{getD, take, drop}
 use lib.Seq.{getD-take, getD-drop}
+use Rattle.format.specs.Numbers.{numberFrom}
 use Rattle.header.specs.Header.{boundsOf}
-use Rattle.rows.specs.Rows.{numberFrom, numberAt, valueOrZero}
+use Rattle.rows.specs.Rows.{numberAt, valueOrZero}
 use Rattle.rows.specs.Steps.{rowOf, rowAt}
 use Rattle.poly.proofs.Lists.{at-tabulate}
 use Rattle.rows.proofs.Tabulated.{tabulate-cong}

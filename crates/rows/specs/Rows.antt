@@ -4,12 +4,9 @@ use mathlib.Core.Bool.{cond}
 use mathlib.Core.List.{List}
 use lib.Dec.{ltb}
 use lib.ListN.{getD}
+use Rattle.format.specs.Numbers.{numberFrom}
 use Rattle.header.specs.Header.{boundsOf}
 use Rattle.poly.specs.Coefficients.{tabulate}
-
--- the 16 bits at bytes k and k + 1, most significant bit first
-abbrev pub numberFrom : List ℕ → ℕ → ℕ
-numberFrom s k = getD s k 0 * 256 + getD s (k + 1) 0
 
 -- the number in row r and column c: column 0 is the point, columns 1 to n are the values
 unfoldable pub numberAt : List ℕ → ℕ → ℕ → ℕ

@@ -4,8 +4,9 @@ use mathlib.Core.Bool.{cond}
 use mathlib.Core.List.{List}
 use lib.Dec.{ltb}
 use lib.ListN.{getD, set}
+use Rattle.format.specs.Numbers.{numberFrom}
 use Rattle.rows.specs.declared.Row.{Row}
-use Rattle.rows.specs.Rows.{numberFrom, pointOf, valueOrZero}
+use Rattle.rows.specs.Rows.{pointOf, valueOrZero}
 use Rattle.poly.specs.Coefficients.{tabulate}
 
 -- one row

@@ -4,8 +4,9 @@ pub mod search;
 ghost use Prim.Native.Nat.{_+_, _*_, _<_, _≤_};
 ghost use mathlib.Core.Path.{_≡_};
 ghost use lib.ListN.{length, set};
+ghost use Rattle.format.specs.Numbers.{numberFrom};
 ghost use Rattle.header.specs.Header.{boundsOf};
-ghost use Rattle.rows.specs.Rows.{numberFrom, pointsOf, valuesOf};
+ghost use Rattle.rows.specs.Rows.{pointsOf, valuesOf};
 ghost use Rattle.rows.specs.Steps.{rowOf, rowAt, setFour};
 use header::wide;
 

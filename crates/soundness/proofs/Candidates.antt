@@ -1,24 +1,20 @@
 -- The candidate that the code holds after each output is a candidate in the sense of the method, or there is no answer.
-use mathlib.Core.Path.{_≡_, refl, sym, _∙_, ap, ap₂, subst}
+use mathlib.Core.Path.{_≡_, refl, sym, _∙_, ap, subst}
 use mathlib.Core.Logic.{_≢_, _⊎_, inl, inr}
-use mathlib.Core.Bool.{Bool, true, false, cond}
-use mathlib.Core.List.{List, []}
-use Prim.Native.Nat.{ℕ, zero, suc, _+_, _-_, _*_, _%_, _≤_, _<_}
-use native.Mathlib.Nat.{mod-lt, mod-eq-of-lt}
-use native.Mathlib.Decide.{decLe, decLt, ℕ-discrete}
+use mathlib.Core.Bool.{true, false}
+use mathlib.Core.List.{List}
+use Prim.Native.Nat.{ℕ, zero, suc, _+_, _-_, _*_, _≤_, _<_}
+use native.Mathlib.Nat.{mod-eq-of-lt}
+use native.Mathlib.Decide.{decLt, ℕ-discrete}
 use native.Mathlib.Omega.{arith}
-use lib.Dec.{ltb, eqb}
-use lib.ListN.{length, getD, set, replicate, length-set}
-use lib.Seq.{getD-set-same, getD-set-other}
-use borrow.Author.Tests.{lt-ltb, le-ltb, eq-eqb, ne-eqb}
+use lib.ListN.{length, set}
+use borrow.Author.Tests.{lt-ltb, le-ltb}
 use Rattle.algebra.proofs.Ring.{Ring}
 use Rattle.algebra.proofs.Field.{Field}
-use Rattle.algebra.proofs.Series.{Series, constS, mulS, nullS}
+use Rattle.algebra.proofs.Series.{Series, mulS}
 use Rattle.algebra.proofs.Bounds.{Below}
-use Rattle.algebra.proofs.Value.{value}
 use Rattle.algebra.proofs.Degree.{HasDegree}
 use Rattle.algebra.proofs.LowestTerms.{LowestTerms, monic-degree}
-use Rattle.method.proofs.Interpolation.{Condition}
 use Rattle.method.proofs.Solution.{Solves}
 use Rattle.method.proofs.Problem.{Evaluation, Problem, None, Ample}
 use Rattle.method.proofs.CrossProduct.{conditions}
@@ -27,28 +23,25 @@ use Rattle.method.proofs.Outputs.{
   Extends,
   first-candidate,
   next-candidate,
-  none-if-psi-null,
   none-if-denominator-too-long,
   none-if-new-numerator-too-long,
   none-if-old-numerator-too-long,
 }
 use Rattle.field.proofs.Primality.{IsPrime}
 use Rattle.field.proofs.Moduli.{modulus-prime}
-use Rattle.field.proofs.PrimeField.{Residue, residue, equal-residue, residue-mul, residueRing, residueField}
+use Rattle.field.proofs.PrimeField.{residue, equal-residue, residueRing, residueField}
 use Rattle.format.specs.declared.Bounds.{Bounds}
 use Rattle.format.specs.Bounds.{numeratorBoundOf}
 use Rattle.poly.specs.declared.Poly.{Poly}
 use Rattle.poly.specs.Coefficients.{at, Bounded}
-use Rattle.poly.specs.Operations.{valueOf, lengthBelow, lengthOf, productOf}
+use Rattle.poly.specs.Operations.{lengthBelow, lengthOf, productOf}
 use Rattle.poly.specs.Vectors.{coefficientsAt}
-use Rattle.poly.proofs.Lists.{at-tabulate, at-past, length-tabulate, bounded-mono}
+use Rattle.poly.proofs.Lists.{bounded-mono}
 use Rattle.poly.proofs.Lengths.{bounded-length, length-at-most}
-use Rattle.poly_meaning.proofs.Series.{series, series-below, residue-mod, constant-means, value-means-bounded}
+use Rattle.poly_meaning.proofs.Series.{series, series-below, constant-means}
 use Rattle.poly_meaning.proofs.Products.{product-means}
-use Rattle.poly_meaning.proofs.Degrees.{length-means, length-means-null, degree-length, below-bounded}
-use Rattle.interpolation.specs.Pairs.{choose, solutionOf}
-use Rattle.interpolation.specs.declared.Pair.{Pair}
-use Rattle.fraction.specs.LowestTerms.{numeratorOf, denominatorOf}
+use Rattle.poly_meaning.proofs.Degrees.{length-means, degree-length, below-bounded}
+use Rattle.interpolation.specs.Pairs.{choose}
 use Rattle.candidate.specs.declared.Candidate.{Candidate}
 use Rattle.candidate.specs.Candidates.{
   Sized,
@@ -58,21 +51,14 @@ use Rattle.candidate.specs.Candidates.{
   numeratorAt,
   unsolvableCandidate,
   startCandidate,
-  columnAt,
-  columnOf,
   raisedAt,
   raisedBelow,
   withOutput,
   extendedOf,
-  withFraction,
   slackOf,
-  nextOf,
-  candidateAfter,
 }
 use Rattle.candidate.proofs.Fittings.{numerator-low, denominator-low, bounded-raised, set-same, set-other, fitting-start, fitting-set}
 use Rattle.candidate.proofs.CandidateLaws.{raised-too-long, raised-fits}
-use Rattle.soundness.proofs.Interpolation.{conditionAt, solution-means}
-use Rattle.soundness.proofs.Fraction.{FractionMeans, fraction-means}
 
 -- the problem of a table of rows, over the residues modulo its prime
 module _ (b : Bounds) where

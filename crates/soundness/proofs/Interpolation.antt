@@ -2,7 +2,7 @@
 use mathlib.Core.Path.{_≡_, refl, sym, _∙_, ap, ap₂, subst}
 use mathlib.Core.Logic.{_≢_}
 use mathlib.Core.List.{List}
-use Prim.Native.Nat.{ℕ, zero, suc, _+_, _-_, _*_, _%_, _≤_, _<_}
+use Prim.Native.Nat.{ℕ, zero, suc, _+_, _-_, _*_, _≤_, _<_}
 use native.Mathlib.Nat.{mod-lt}
 use native.Mathlib.Numerals.{add-one}
 use native.Mathlib.Decide.{decLe, ℕ-discrete}
@@ -33,7 +33,7 @@ use Rattle.method.proofs.Interpolation.{
 use Rattle.method.proofs.Solution.{Solves, first-solves, second-solves}
 use Rattle.field.proofs.Primality.{IsPrime}
 use Rattle.field.proofs.PrimeField.{Residue, residue, residue-add, residue-mul, residue-neg, residueRing, residueField}
-use Rattle.poly.specs.Coefficients.{at, Bounded}
+use Rattle.poly.specs.Coefficients.{at}
 use Rattle.poly.specs.Operations.{valueOf}
 use Rattle.poly.specs.Vectors.{onePoly, zeroPoly}
 use Rattle.poly.proofs.Bounds.{bounded-times-linear, bounded-combination}
@@ -52,11 +52,9 @@ use Rattle.interpolation.specs.declared.Pairs.{Pairs}
 use Rattle.interpolation.specs.Pairs.{
   PairBounded,
   PairsBounded,
-  Conditions,
   discrepancyOf,
   advancedOf,
   combinedOf,
-  stepBy,
   stepOf,
   startOf,
   pairsAfter,
@@ -70,7 +68,6 @@ use Rattle.interpolation.proofs.PairLaws.{
   step-first,
   step-clear-second,
   step-clear-first,
-  Reached,
   reached-start,
   smaller-first,
   smaller-second,

@@ -1,36 +1,33 @@
 -- All outputs: after the last one the code holds the method's candidate, or there is no answer.
-use mathlib.Core.Path.{_≡_, refl, sym, _∙_, ap, ap₂, subst}
+use mathlib.Core.Path.{_≡_, refl, sym, _∙_, ap, subst}
 use mathlib.Core.Logic.{inl, inr}
-use mathlib.Core.Bool.{Bool, true, false, cond}
+use mathlib.Core.Bool.{true}
 use mathlib.Core.List.{List}
 use Prim.Native.Nat.{ℕ, zero, suc, _+_, _-_, _*_, _%_, _≤_, _<_}
-use native.Mathlib.Nat.{mod-lt}
-use native.Mathlib.Decide.{decLt, ℕ-discrete}
+use native.Mathlib.Decide.{ℕ-discrete}
 use native.Mathlib.Omega.{arith}
-use lib.Dec.{ltb, eqb}
-use lib.ListN.{length}
-use borrow.Author.Tests.{lt-ltb, le-ltb, eq-eqb, ne-eqb}
+use borrow.Author.Tests.{eq-eqb, ne-eqb}
 use Rattle.algebra.proofs.Value.{value}
-use Rattle.method.proofs.Interpolation.{Condition}
 use Rattle.method.proofs.Solution.{Solves}
 use Rattle.method.proofs.CrossProduct.{conditions}
 use Rattle.method.proofs.Outputs.{none-if-psi-null}
 use Rattle.field.proofs.PrimeField.{residue, residue-mul}
 use Rattle.format.specs.declared.Bounds.{Bounds}
-use Rattle.poly.specs.Coefficients.{at, Bounded}
+use Rattle.poly.specs.Coefficients.{at}
 use Rattle.poly.specs.Operations.{valueOf, lengthOf}
-use Rattle.poly.proofs.Lists.{at-tabulate, at-past, length-tabulate}
+use Rattle.poly.proofs.Lists.{at-tabulate}
 use Rattle.poly_meaning.proofs.Series.{residue-mod, value-means-bounded}
 use Rattle.poly_meaning.proofs.Degrees.{length-means-null}
 use Rattle.interpolation.specs.declared.Pair.{Pair}
 use Rattle.interpolation.specs.Pairs.{PairBounded, choose, solutionOf}
 use Rattle.euclid.proofs.Leading.{Stored}
 use Rattle.candidate.specs.declared.Candidate.{Candidate}
-use Rattle.candidate.specs.Candidates.{primeOf, columnAt, columnOf, withFraction, slackOf, nextOf, candidateAfter}
+use Rattle.candidate.specs.Candidates.{primeOf, columnOf, withFraction, slackOf, nextOf, candidateAfter}
+use Rattle.candidate.proofs.Columns.{column-is, bounded-column}
 use Rattle.candidate.proofs.Fittings.{denominator-low}
-use Rattle.soundness.proofs.Interpolation.{conditionAt, solution-means}
-use Rattle.soundness.proofs.Sizes.{Whole, whole-solution}
-use Rattle.soundness.proofs.Fraction.{FractionMeans, fraction-means}
+use Rattle.soundness.proofs.Interpolation.{solution-means}
+use Rattle.soundness.proofs.Sizes.{whole-solution}
+use Rattle.soundness.proofs.Fraction.{fraction-means}
 use Rattle.soundness.proofs.Candidates.{P, R, F, poly, evaluation, problem, Usable, ample, capacity, Good, Verdict, no-answer, start-verdict, extended-verdict}
 
 module _ (b : Bounds) (points values : List ℕ) (U : Usable b points values) where
@@ -46,21 +43,12 @@ module _ (b : Bounds) (points values : List ℕ) (U : Usable b points values) wh
     z = columnOf b points values i (c .g .c)
 
     z-at : (l : ℕ) → l < b .rows → at z l ≡ valueOf p (at points l) (c .g .c) * at values (l * 4 + i) % p
-    unfolding columnOf columnAt
-    z-at l h = at-tabulate 32 _ l (let n = U .sized .rows in omega arith) ∙ rw (lt-ltb l (b .rows) h)
+    unfolding columnOf
+    z-at l h = at-tabulate 32 _ l (let n = U .sized .rows in omega arith) ∙ sym (column-is p (b .rows) points values i (c .g .c) l h refl refl)
 
     z-below : (l : ℕ) → at z l < p
-    unfolding columnOf columnAt
-    z-below l = by (decLt l 32) (decLt l (b .rows))
-      where
-        by : Dec (l < 32) → Dec (l < b .rows) → at z l < p
-        by (no large) d = let e = at-past z l (let n = length-tabulate 32 (columnAt p (b .rows) points values i (c .g .c)) in omega arith) in let h = positive in omega arith
-        by (yes small) (yes row) = subst (λ t. t < p) (sym (z-at l row)) (mod-lt _ positive)
-        by (yes small) (no none) =
-            let past : b .rows ≤ l = omega arith in
-            let e : at z l ≡ 0 = at-tabulate 32 _ l small ∙ rw (le-ltb l (b .rows) past) in
-            let h = positive in
-            omega arith
+    unfolding columnOf
+    z-below = bounded-column p (b .rows) points values i (c .g .c) positive .residues
 
     -- they are those of the method
     z-means : (l : ℕ) → l < b .rows

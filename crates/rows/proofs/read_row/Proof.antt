@@ -3,8 +3,8 @@ use mathlib.Core.Path.{_≡_, refl, ap, _∙_}
 use borrow.Author.Needs.{needs}
 use native.Mathlib.Omega.{arith}
 use denote.Ref.{now}
+use Rattle.format.specs.Numbers.{numberFrom}
 use Rattle.poly.specs.Coefficients.{tabulate}
-use Rattle.rows.specs.Rows.{numberFrom}
 use Rattle.rows.specs.Steps.{rowOf}
 use Rattle.rows.proofs.Tabulated.{upTo, fill-more}
 use Rattle.rows.proofs.read_row.Statement.{statement}

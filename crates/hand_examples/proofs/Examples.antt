@@ -1,0 +1,103 @@
+-- The claim over the table, by one computation over all its entries.
+use mathlib.Core.Path.{_≡_, refl, ap, subst}
+use mathlib.Core.List.{List, [], _∷_, map}
+use Prim.Native.Nat.{ℕ}
+use Rattle.poly.specs.Coefficients.{tabulate}
+use Rattle.poly.specs.Operations.{
+  valueOf,
+  combinationAt,
+  combinationOf,
+  timesLinearAt,
+  timesLinearOf,
+  scaledAt,
+  scaledOf,
+  lengthBelow,
+  lengthOf,
+  sumBelow,
+  productAt,
+  productOf,
+}
+use Rattle.field.specs.Residues.{lastBelow, reciprocalOf}
+use Rattle.euclid.specs.Division.{
+  shifted,
+  cancelledAt,
+  cancelledOf,
+  factorOf,
+  stepOf,
+  remainderFrom,
+  quotientFrom,
+  degreeOf,
+  leadingReciprocal,
+  remainderOf,
+  quotientOf,
+}
+use Rattle.euclid.specs.Euclid.{gcdFrom, gcdOf}
+use Rattle.fraction.specs.LowestTerms.{unitOf, numeratorOf, denominatorOf}
+use Rattle.interpolation.specs.Pairs.{discrepancyOf, advancedOf, combinedOf, stepBy, startOf, pairsAfter, smallerOf}
+use Rattle.candidate.specs.Candidates.{
+  unsolvableCandidate,
+  startCandidate,
+  columnAt,
+  columnOf,
+  raisedAt,
+  raisedBelow,
+  withOutput,
+  extendedOf,
+  withFraction,
+  nextOf,
+  candidateAfter,
+}
+use Rattle.header.specs.Header.{headerOf, boundsOf, spareBitOf}
+use Rattle.rows.specs.Search.{firstBelow}
+use Rattle.rows.specs.Rows.{numberAt, pointsOf, valuesOf}
+use Rattle.job.specs.Refusals.{outcomeOfRows, outcomeOf}
+use Rattle.judge.specs.Rows.{wrongRow}
+use Rattle.answer.specs.Word.{wordOf, countBelow}
+use Rattle.answer.specs.Bytes.{coefficientBytes, outputBytes}
+use Rattle.format.specs.declared.Outcome.{Outcome}
+use Rattle.recovery.specs.Recovery.{Settled}
+use Rattle.recovery.specs.Solutions.{unsolvedSolution, wordBy, countedSolution, judgedSolution}
+use Rattle.recovery.proofs.Laws.{settled-unique}
+use Rattle.hand_examples.specs.Table.{Example, table, Holds, EveryHolds}
+use Rattle.hand_examples.proofs.Model.{Result, resultOf, result-settled}
+
+abbrev computed : Example → Result
+computed e = resultOf (e .job) (e .before)
+
+abbrev expected : Example → Result
+expected e = record { outcome = e .outcome; after = e .after }
+
+-- the first of a list, and the others
+abbrev firstOr : Result → List Result → Result
+firstOr d [] = d
+firstOr d (x ∷ xs) = x
+
+abbrev others : List Result → List Result
+others [] = []
+others (x ∷ xs) = xs
+
+-- where the definition gives what is expected at every entry, the claim holds
+each : (l : List Example) → map computed l ≡ map expected l → EveryHolds l
+each [] h = tt
+each (e ∷ l) h = (
+  subst (λ r. Settled (e .job) (e .before) (r .outcome) (r .after)) (ap (firstOr (computed e)) h) (result-settled (e .job) (e .before)),
+  each l (ap others h),
+)
+
+as-expected : map computed table ≡ map expected table
+unfolding table resultOf outcomeOf outcomeOfRows headerOf boundsOf spareBitOf firstBelow numberAt pointsOf valuesOf tabulate judgedSolution
+    countedSolution unsolvedSolution wordBy candidateAfter nextOf withFraction extendedOf withOutput raisedBelow raisedAt columnOf columnAt
+    startCandidate unsolvableCandidate pairsAfter stepBy startOf smallerOf combinedOf advancedOf discrepancyOf valueOf combinationOf
+    combinationAt timesLinearOf timesLinearAt scaledOf scaledAt lengthOf lengthBelow sumBelow productAt productOf unitOf numeratorOf
+    denominatorOf gcdOf gcdFrom remainderOf quotientOf leadingReciprocal degreeOf quotientFrom remainderFrom stepOf factorOf cancelledOf
+    cancelledAt shifted reciprocalOf lastBelow wrongRow wordOf countBelow coefficientBytes outputBytes
+as-expected = refl
+
+-- H1 to H12
+pub hand-examples : EveryHolds table
+hand-examples = each table as-expected
+
+-- and a call of the recovery for a job of the table returns and leaves nothing else
+pub only-result : (e : Example) → Holds e → {r : Outcome} {after : List ℕ} → Settled (e .job) (e .before) r after
+    → (r ≡ e .outcome) × (after ≡ e .after)
+only-result e h S = settled-unique (e .job) (e .before) S h

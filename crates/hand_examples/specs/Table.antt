@@ -1,0 +1,82 @@
+-- Paper 01, "Drawings checked by hand": H1 to H12 as one table, with one claim over it. Numbers are hexadecimal, as they stand there.
+use mathlib.Core.List.{List, [], _∷_, _++_}
+use Prim.Native.Nat.{ℕ}
+use lib.ListN.{replicate}
+use Rattle.format.specs.declared.Reason.the-variants.{OutOfRange, AreaTooShort, NoAnswer}
+use Rattle.format.specs.declared.Outcome.{Outcome}
+use Rattle.format.specs.declared.Outcome.the-variants.{Recovered, Refused}
+use Rattle.answer.specs.Bytes.{twoBytes}
+use Rattle.recovery.specs.Recovery.{Settled}
+
+-- a job's bytes, the answer area before the call, what is returned, and the area after it
+pub record Example : Type 0 where
+  pub job : List ℕ
+  pub before : List ℕ
+  pub outcome : Outcome
+  pub after : List ℕ
+
+-- the bytes of numbers of 16 bits
+abbrev pub numbers : List ℕ → List ℕ
+numbers [] = []
+numbers (v ∷ vs) = twoBytes v ++ numbers vs
+
+-- an area of so many bytes, filled with a pattern
+abbrev pub pattern : ℕ → List ℕ
+pattern bytes = replicate bytes 0xA5
+
+-- a job with an answer, in an area that is exactly as long as it
+abbrev pub answered : List ℕ → (bytes wrong : ℕ) → List ℕ → Example
+answered job bytes wrong after = record { job = job; before = pattern bytes; outcome = Recovered bytes wrong; after = numbers after }
+
+-- a refused job, with the area untouched
+abbrev pub refused : List ℕ → ℕ → Outcome → Example
+refused job bytes outcome = record { job = job; before = pattern bytes; outcome = outcome; after = pattern bytes }
+
+-- H1's header and points, with these three values
+abbrev pub three : ℕ → ℕ → ℕ → List ℕ
+three y0 y1 y2 = 0x01 ∷ 0x80 ∷ 0x02 ∷ numbers (0x0000 ∷ y0 ∷ 0x0001 ∷ y1 ∷ 0x0002 ∷ y2 ∷ [])
+
+-- H3's: df 0, dg 1, E 1, points 0, 1, 2, 3
+abbrev pub four : ℕ → ℕ → ℕ → ℕ → List ℕ
+four y0 y1 y2 y3 = 0x02 ∷ 0x00 ∷ 0x22 ∷ numbers (0x0000 ∷ y0 ∷ 0x0001 ∷ y1 ∷ 0x0002 ∷ y2 ∷ 0x0003 ∷ y3 ∷ [])
+
+-- H6's: df 1, dg 1, E 0, points 0, 1, 2
+abbrev pub linear : ℕ → ℕ → ℕ → List ℕ
+linear y0 y1 y2 = 0x01 ∷ 0x84 ∷ 0x20 ∷ numbers (0x0000 ∷ y0 ∷ 0x0001 ∷ y1 ∷ 0x0002 ∷ y2 ∷ [])
+
+unfoldable pub table : List Example
+table =
+    -- H1: 5, with row 2 wrong
+    answered (three 5 5 2) 8 1 (0x2000 ∷ 0x0000 ∷ 0x0001 ∷ 0x0005 ∷ [])
+    -- H2: 1/u
+    ∷ answered (0x01 ∷ 0x00 ∷ 0x20 ∷ numbers (0x0001 ∷ 0x0001 ∷ 0x0002 ∷ 0x0004 ∷ [])) 10 0 (0x0000 ∷ 0x0000 ∷ 0x0000 ∷ 0x0001 ∷ 0x0001 ∷ [])
+    -- H3 and H4: 1/u again, the row at its pole wrong with either value
+    ∷ answered (four 0 1 4 5) 10 1 (0x8000 ∷ 0x0000 ∷ 0x0000 ∷ 0x0001 ∷ 0x0001 ∷ [])
+    ∷ answered (four 6 1 4 5) 10 1 (0x8000 ∷ 0x0000 ∷ 0x0000 ∷ 0x0001 ∷ 0x0001 ∷ [])
+    -- H5: 0
+    ∷ answered (three 0 0 3) 8 1 (0x2000 ∷ 0x0000 ∷ 0x0001 ∷ 0x0000 ∷ [])
+    -- H6: 1, and H7: none
+    ∷ answered (linear 1 1 1) 12 0 (0x0000 ∷ 0x0000 ∷ 0x0001 ∷ 0x0000 ∷ 0x0001 ∷ 0x0000 ∷ [])
+    ∷ refused (linear 1 1 2) 12 (Refused NoAnswer 0)
+    -- H8: g = 1 + u, f1 = 1, f2 = u
+    ∷ answered
+    (0x11 ∷ 0x84 ∷ 0x20 ∷ numbers (0x0000 ∷ 0x0001 ∷ 0x0000 ∷ 0x0001 ∷ 0x0004 ∷ 0x0004 ∷ 0x0002 ∷ 0x0005 ∷ 0x0003 ∷ []))
+    16 0 (0x0000 ∷ 0x0000 ∷ 0x0001 ∷ 0x0001 ∷ 0x0001 ∷ 0x0000 ∷ 0x0000 ∷ 0x0001 ∷ [])
+    -- H9: none
+    ∷ refused (three 5 4 2) 8 (Refused NoAnswer 0)
+    -- H10 and H11: the largest value modulo 65521, and one that is too large
+    ∷ answered (0xC0 ∷ 0x80 ∷ 0x00 ∷ numbers (0x0000 ∷ 0xFFF0 ∷ [])) 8 0 (0x0000 ∷ 0x0000 ∷ 0x0001 ∷ 0xFFF0 ∷ [])
+    ∷ refused (0xC0 ∷ 0x80 ∷ 0x00 ∷ numbers (0x0000 ∷ 0xFFF1 ∷ [])) 8 (Refused OutOfRange 0)
+    -- H12: H1's job with an area of 7 bytes, and of 8
+    ∷ refused (three 5 5 2) 7 (Refused AreaTooShort 0)
+    ∷ answered (three 5 5 2) 8 1 (0x2000 ∷ 0x0000 ∷ 0x0001 ∷ 0x0005 ∷ [])
+    ∷ []
+
+-- what a call returns and leaves in the area, by demands 1 and 2
+abbrev pub Holds : Example → Type 0
+Holds e = Settled (e .job) (e .before) (e .outcome) (e .after)
+
+-- the claim: so it is at every entry
+abbrev pub EveryHolds : List Example → Type 0
+EveryHolds [] = Unit
+EveryHolds (e ∷ es) = Holds e × EveryHolds es
