@@ -1,0 +1,67 @@
+-- A job's text always fits a buffer of 1280 bytes.
+use Prim.Native.Nat.{ℕ, _+_, _≤_}
+use mathlib.Core.Path.{_≡_, refl, sym, ap, _∙_}
+use mathlib.Core.Bool.{true}
+use mathlib.Core.List.{List}
+use native.Mathlib.Omega.{arith}
+use lib.ListN.{length, drop, length-append}
+use lib.Seq.{length-take-le}
+use Rattle.format.specs.declared.Bounds.{Bounds}
+use Rattle.format.specs.declared.Outcome.{Outcome}
+use Rattle.format.specs.declared.Outcome.the-variants.{Accepted, Recovered, Refused}
+use Rattle.header.specs.Header.{boundsOf}
+use Rattle.header.proofs.Fields.{narrow}
+use Rattle.job.specs.Refusals.{outcomeOf}
+use Rattle.job.specs.Answer.{readingWith, readingOf}
+use Rattle.answer.specs.Bytes.{overwritten}
+use Rattle.recovery.specs.Recovery.{Settled}
+use Rattle.text.specs.declared.Written.{Written}
+use Rattle.text.specs.declared.Written.the-variants.{Bytes}
+use Rattle.text.specs.Text.{isStorable, textOf, writtenOf, bufferAfter}
+use Rattle.text.proofs.Writing.{true-storable, told-bytes}
+use Rattle.recover.specs.Printed.{textFor, Printed}
+
+-- the bounds of a reading, whatever its outcome
+reading-storable : (s : List ℕ) (room : ℕ) → isStorable (readingOf s room .bounds) ≡ true
+reading-storable s room = by-outcome (outcomeOf s room)
+  where
+    by-outcome : (outcome : Outcome) → isStorable (readingWith outcome s .bounds) ≡ true
+    by-outcome Accepted =
+        let fields = narrow s in
+        true-storable (boundsOf s) (record { few = fields .outputs-most; denominator-low = fields .denominator-most; numerators-low = λ i. fields .numerator-most })
+    by-outcome (Recovered bytes wrong) = refl
+    by-outcome (Refused reason row) = refl
+
+-- the call that writes the text answers w and leaves the buffer as `after`
+module _
+  (s area left old after : List ℕ) (outcome : Outcome) (b : Bounds) (w : Written)
+  (known : b ≡ readingOf s (length area) .bounds) (room : 1280 ≤ length old)
+  (answer : w ≡ writtenOf b outcome left (length old)) (buffer : after ≡ bufferAfter b outcome left old)
+  (short : isStorable b ≡ true → length (textOf b outcome left) ≤ 1280) where
+
+  good : isStorable b ≡ true
+  good = ap isStorable known ∙ reading-storable s (length area)
+
+  told : (Bytes (length (textOf b outcome left)) ≡ writtenOf b outcome left (length old))
+      × (overwritten (textOf b outcome left) old ≡ bufferAfter b outcome left old)
+  told = told-bytes b outcome left old good (length (textOf b outcome left)) refl (omega (arith, short good))
+
+  -- neither too short nor malformed
+  pub always-written : w ≡ Bytes (length (textOf b outcome left))
+  always-written = answer ∙ sym (told .0)
+
+  pub printed : Settled s area outcome left → (n : ℕ) → w ≡ Bytes n → Printed s area left old n after
+  printed settled n is =
+      let text = textFor s (length area) outcome left in
+      let same : textOf b outcome left ≡ text = ap (λ bounds. textOf bounds outcome left) known in
+      let whole = always-written in
+      let size : n ≡ length (textOf b outcome left) = cc in
+      let holds : after ≡ overwritten text old = buffer ∙ sym (told .1) ∙ ap (λ l. overwritten l old) same in
+      let within : n ≤ length after = omega (arith, ap length holds, length-append text (drop (length text) old), ap length same) in
+      record {
+        outcome = outcome;
+        settled = settled;
+        size = size ∙ ap length same;
+        written = holds;
+        counted = (within, sym (length-take-le n after within));
+      }

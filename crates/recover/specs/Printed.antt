@@ -1,0 +1,25 @@
+-- What the program makes of a job's bytes.
+use Prim.Native.Nat.{ℕ}
+use mathlib.Core.Path.{_≡_}
+use mathlib.Core.List.{List}
+use lib.ListN.{length}
+use Rattle.format.specs.declared.Outcome.{Outcome}
+use Rattle.job.specs.Answer.{readingOf}
+use Rattle.answer.specs.Bytes.{overwritten}
+use Rattle.recovery.specs.Recovery.{Settled}
+use Rattle.text.specs.Text.{textOf}
+use Rattle.io.specs.Counts.{Counts}
+
+-- the text of an outcome for the job s with an area of so many bytes, which then holds what the recovery left
+abbrev pub textFor : List ℕ → ℕ → Outcome → List ℕ → List ℕ
+textFor s room outcome left = textOf (readingOf s room .bounds) outcome left
+
+-- The recovery's outcome and what it left in the area are those of demands 1 and 2; the buffer, which held the old bytes,
+-- then holds their text and what lay behind it, and n is the text's length.
+pub record Printed (s area left old : List ℕ) (n : ℕ) (after : List ℕ) : Type 0 where
+  pub outcome : Outcome
+  pub settled : Settled s area outcome left
+  pub size : n ≡ length (textFor s (length area) outcome left)
+  pub written : after ≡ overwritten (textFor s (length area) outcome left) old
+  -- so that the text can be lent from the buffer
+  pub counted : Counts n after

@@ -1,0 +1,89 @@
+-- A text has fewer than 1280 bytes.
+use Prim.Native.Nat.{ℕ, zero, suc, _+_, _*_, _^_, _≤_, _<_}
+use mathlib.Core.Path.{_≡_, refl}
+use mathlib.Core.Bool.{Bool, true, false, cond}
+use mathlib.Core.List.{List, _++_}
+use native.Mathlib.Omega.{arith}
+use lib.ListN.{length, getD, length-append}
+use Rattle.format.specs.Numbers.{wordFrom}
+use Rattle.format.specs.declared.Bounds.{Bounds}
+use Rattle.format.specs.Bounds.{Storable, numeratorBoundOf}
+use Rattle.answer.specs.Bytes.{numeratorStart}
+use Rattle.answer.specs.Word.{marked}
+use Rattle.text.specs.Decimal.{decimalOf, itemOf}
+use Rattle.text.specs.Lines.{lineFeed, outputLabel, rowItems, coefficientFrom, degreeWithin, itemsBelow, coefficientsLine, outputLineFrom, outputLines}
+use Rattle.text.specs.Text.{recoveredLabel, wrongLabel, denominatorLabel, refusedLabel, recoveredText, refusedText}
+use Rattle.text.proofs.Digits.{digits-few}
+use Rattle.text.proofs.Polynomials.{degree-low}
+
+joined : (a b : List ℕ) (m n : ℕ) → length a ≤ m → length b ≤ n → length (a ++ b) ≤ m + n
+joined a b m n short-a short-b = omega (arith, length-append a b)
+
+decimal-few : (n j : ℕ) → n < 10 ^ suc j → length (decimalOf n) ≤ suc j
+decimal-few n j h = digits-few (suc n) n j h
+
+row-items : (n r : ℕ) (wrong : ℕ → Bool) → r + n ≤ 32 → length (rowItems n r wrong) ≤ 3 * n
+unfolding rowItems
+row-items zero r wrong h = omega arith
+row-items (suc n) r wrong h = by-flag (wrong r) (row-items n (suc r) wrong (omega arith))
+  where
+    by-flag : (flag : Bool) → length (rowItems n (suc r) wrong) ≤ 3 * n
+        → length (cond flag (itemOf r ++ rowItems n (suc r) wrong) (rowItems n (suc r) wrong)) ≤ 3 * suc n
+    by-flag true short = omega (arith, length-append (itemOf r) (rowItems n (suc r) wrong), decimal-few r 1 (omega arith))
+    by-flag false short = omega arith
+
+coefficient-items : (c : ℕ → ℕ) → ((k : ℕ) → c k < 65536) → (count : ℕ) → length (itemsBelow c count) ≤ 6 * count
+unfolding itemsBelow
+coefficient-items c low zero = omega arith
+coefficient-items c low (suc count) =
+    omega (arith, length-append (itemsBelow c count) (itemOf (c count)), coefficient-items c low count, decimal-few (c count) 4 (omega (arith, low count)))
+
+coefficients-line : (c : ℕ → ℕ) → ((k : ℕ) → c k < 65536) → (bound : ℕ) → bound < 32 → length (coefficientsLine c bound) ≤ 193
+coefficients-line c low bound h =
+    let count = degreeWithin c bound + 1 in
+    omega (arith, length-append (itemsBelow c count) lineFeed, coefficient-items c low count, degree-low c bound)
+
+-- bytes below 256 throughout
+module _ (s : List ℕ) (bytes : (k : ℕ) → getD s k 0 < 256) where
+  coefficient-low : (start k : ℕ) → coefficientFrom s start k < 65536
+  coefficient-low start k = omega (arith, bytes (start + 2 * k), bytes (start + 2 * k + 1))
+
+  output-line : (i start bound : ℕ) → i < 4 → bound < 32 → length (outputLineFrom s i start bound) ≤ 195
+  output-line i start bound few h =
+      let c = coefficientFrom s start in
+      joined (outputLabel ++ decimalOf (i + 1)) (coefficientsLine c bound) 2 193
+      (joined outputLabel (decimalOf (i + 1)) 1 1 (omega arith) (decimal-few (i + 1) 0 (omega arith)))
+      (coefficients-line c (coefficient-low start) bound h)
+
+  output-lines : (b : Bounds) → Storable b → (n : ℕ) → n ≤ 4 → length (outputLines b s n) ≤ 195 * n
+  unfolding outputLines
+  output-lines b fits zero few = omega arith
+  output-lines b fits (suc i) few =
+      let start = numeratorStart b i in
+      let bound = numeratorBoundOf b i in
+      omega (arith, length-append (outputLines b s i) (outputLineFrom s i start bound), output-lines b fits i (omega arith),
+      output-line i start bound (omega arith) (omega (arith, fits .numerators-low i)))
+
+  pub recovered-short : (b : Bounds) → Storable b → (wrong : ℕ) → wrong < 2 ^ 32 → length (recoveredText b wrong s) < 1280
+  recovered-short b fits wrong low =
+      let rows = rowItems 32 0 (marked (wordFrom s)) in
+      let line = coefficientsLine (coefficientFrom s 4) (b .denominator) in
+      let outputs = outputLines b s (b .outputs) in
+      let one = joined recoveredLabel (decimalOf wrong) 10 10 (omega arith) (decimal-few wrong 9 (omega arith)) in
+      let end = joined (recoveredLabel ++ decimalOf wrong) lineFeed 20 1 one (omega arith) in
+      let two = joined (recoveredLabel ++ decimalOf wrong ++ lineFeed) wrongLabel 21 5 end (omega arith) in
+      let listed = joined (recoveredLabel ++ decimalOf wrong ++ lineFeed ++ wrongLabel) rows 26 96 two (row-items 32 0 (marked (wordFrom s)) (omega arith)) in
+      let end-two = joined (recoveredLabel ++ decimalOf wrong ++ lineFeed ++ wrongLabel ++ rows) lineFeed 122 1 listed (omega arith) in
+      let three = joined (recoveredLabel ++ decimalOf wrong ++ lineFeed ++ wrongLabel ++ rows ++ lineFeed) denominatorLabel 123 1 end-two (omega arith) in
+      let end-three =
+      joined (recoveredLabel ++ decimalOf wrong ++ lineFeed ++ wrongLabel ++ rows ++ lineFeed ++ denominatorLabel) line 124 193 three
+      (coefficients-line (coefficientFrom s 4) (coefficient-low 4) (b .denominator) (omega (arith, fits .denominator-low))) in
+      omega (arith, length-append (recoveredLabel ++ decimalOf wrong ++ lineFeed ++ wrongLabel ++ rows ++ lineFeed ++ denominatorLabel ++ line) outputs, end-three,
+      output-lines b fits (b .outputs) (fits .few), fits .few)
+
+pub refused-short : (number row : ℕ) → number < 2 ^ 32 → row < 2 ^ 32 → length (refusedText number row) < 1280
+refused-short number row low-number low-row =
+    let one = joined refusedLabel (decimalOf number) 8 10 (omega arith) (decimal-few number 9 (omega arith)) in
+    let item : length (itemOf row) ≤ 11 = omega (arith, decimal-few row 9 (omega arith)) in
+    let two = joined (refusedLabel ++ decimalOf number) (itemOf row) 18 11 one item in
+    omega (arith, length-append (refusedLabel ++ decimalOf number ++ itemOf row) lineFeed)

@@ -1,0 +1,54 @@
+-- What a call that writes a text answers, by its cases.
+use Prim.Native.Nat.{ℕ, _≤_, _<_}
+use mathlib.Core.Path.{_≡_, refl, sym, ap₂, subst, _∙_}
+use mathlib.Core.Bool.{Bool, true, false, cond}
+use mathlib.Core.List.{List}
+use native.Mathlib.Omega.{arith}
+use lib.Dec.{T, leb}
+use lib.ListN.{length}
+use borrow.Author.Tests.{lt-leb, le-leb, leb-true}
+use Rattle.format.specs.declared.Bounds.{Bounds}
+use Rattle.format.specs.declared.Outcome.{Outcome}
+use Rattle.format.specs.Bounds.{Storable}
+use Rattle.answer.specs.Bytes.{overwritten}
+use Rattle.text.specs.declared.Written.{Written}
+use Rattle.text.specs.declared.Written.the-variants.{Bytes, TooShort, Malformed}
+use Rattle.text.specs.Text.{textOf, isStorable, writtenOf, bufferAfter}
+
+both-true : (x y : Bool) → cond x y false ≡ true → (x ≡ true) × (y ≡ true)
+both-true true y e = (refl, e)
+both-true false y e = absurd (subst T (sym e) tt)
+
+-- what is left of the test where its first two parts hold
+pub storable-last : (b : Bounds) → b .outputs ≤ 4 → b .denominator ≤ 31 → isStorable b ≡ leb (b .numerator) 31
+storable-last b few low =
+    ap₂ (λ x y. cond x (cond y (leb (b .numerator) 31) false) false) (le-leb (b .outputs) 4 few) (le-leb (b .denominator) 31 low)
+
+pub true-storable : (b : Bounds) → Storable b → isStorable b ≡ true
+true-storable b fits = storable-last b (fits .few) (fits .denominator-low) ∙ le-leb (b .numerator) 31 (fits .numerators-low 0)
+
+pub storable-true : (b : Bounds) → isStorable b ≡ true → Storable b
+storable-true b e =
+    let first = both-true (leb (b .outputs) 4) (cond (leb (b .denominator) 31) (leb (b .numerator) 31) false) e in
+    let rest = both-true (leb (b .denominator) 31) (leb (b .numerator) 31) (first .1) in
+    record {
+      few = leb-true (b .outputs) 4 (first .0);
+      denominator-low = leb-true (b .denominator) 31 (rest .0);
+      numerators-low = λ i. leb-true (b .numerator) 31 (rest .1);
+    }
+
+module _ (b : Bounds) (outcome : Outcome) (s old : List ℕ) where
+  -- the answer r and the buffer's contents are those of the definitions
+  abbrev pub Told : Written → List ℕ → Type 0
+  Told r after = (r ≡ writtenOf b outcome s (length old)) × (after ≡ bufferAfter b outcome s old)
+
+  pub told-malformed : isStorable b ≡ false → Told Malformed old
+  told-malformed bad = (rw bad, rw bad)
+
+  pub told-short : isStorable b ≡ true → length old < length (textOf b outcome s) → Told TooShort old
+  told-short good short = let test = lt-leb (length (textOf b outcome s)) (length old) short in (rw (good, test), rw (good, test))
+
+  pub told-bytes : isStorable b ≡ true → (n : ℕ) → n ≡ length (textOf b outcome s) → n ≤ length old → Told (Bytes n) (overwritten (textOf b outcome s) old)
+  told-bytes good n size room =
+      let test = le-leb (length (textOf b outcome s)) (length old) (omega arith) in
+      (rw (size, good, test), rw (good, test))

@@ -1,0 +1,118 @@
+use Prim.Native.Nat.{_+_, _-_, _*_, _≤_}
+use mathlib.Core.Path.{_≡_, refl, sym, ap, ap₂, _∙_}
+use lib.ListN.{length}
+use Rattle.format.specs.Bounds.{numeratorBoundOf}
+use Rattle.answer.specs.Bytes.{numeratorStart}
+use Rattle.text.specs.Drafts.{held, extended}
+use Rattle.text.specs.Lines.{outputLineFrom, outputLines}
+use Rattle.text.proofs.Puts.{put-nothing, put-both}
+use Rattle.text.proofs.Polynomials.{next-start, next-line}
+use borrow.Author.Needs.{needs}
+use native.Mathlib.Omega.{arith}
+use Rattle.text.proofs.lines.put_outputs.Statement.{statement}
+use Rattle.text.proofs.lines.put_outputs.Tie as tie
+
+abbrev Inv-loop : tie.InvT-loop
+Inv-loop area b n r₀ start₀ i₀ r start i =
+    (i ≤ n) × (start ≡ numeratorStart b i) × (start ≤ 68 + 64 * i) × (held r ≡ extended r₀ (outputLines b area i))
+
+abbrev μ-loop : tie.MeasureT-loop
+μ-loop area b n r₀ start₀ i₀ r start i = n - i
+
+add-start : tie.Need-add-start Inv-loop μ-loop
+add-start c = omega (arith, c .before .before .pre .denominator-low)
+
+mul-start : tie.Need-mul-start Inv-loop μ-loop
+mul-start c = omega (arith, c .before .before .pre .denominator-low)
+
+add-start-2 : tie.Need-add-start-2 Inv-loop μ-loop
+add-start-2 c = omega (arith, c .before .before .pre .denominator-low)
+
+loop-holds : tie.Need-loop-holds Inv-loop μ-loop
+unfolding numeratorStart outputLines
+loop-holds c =
+    let g = c .before .before in
+    let whole : length (g .args .draft .bytes) ≡ 1280 = search needs in
+    (omega arith, refl, omega (arith, g .pre .denominator-low), put-nothing (g .args .draft .bytes) whole (g .args .draft .count))
+
+numerator-bound-requires : tie.Need-numerator-bound-requires Inv-loop μ-loop
+numerator-bound-requires c κs = search needs
+
+put-output-requires : tie.Need-put-output-requires Inv-loop μ-loop
+put-output-requires c κs =
+    let s = c .before .before in
+    let g = s .before .before .before in
+    let low = g .pre .numerators-low (s .loop .i) in
+    let few = g .pre .few in
+    (omega arith, omega arith, omega arith)
+
+add-start-3 : tie.Need-add-start-3 Inv-loop μ-loop
+add-start-3 c =
+    let s = c .before .before .before in
+    let low = s .before .before .before .pre .numerators-low (s .loop .i) in
+    omega arith
+
+mul-start-2 : tie.Need-mul-start-2 Inv-loop μ-loop
+mul-start-2 c =
+    let s = c .before .before .before in
+    let low = s .before .before .before .pre .numerators-low (s .loop .i) in
+    omega arith
+
+add-start-4 : tie.Need-add-start-4 Inv-loop μ-loop
+add-start-4 c =
+    let s = c .before .before .before in
+    let g = s .before .before .before in
+    let low = g .pre .numerators-low (s .loop .i) in
+    let few = g .pre .few in
+    omega arith
+
+add-i : tie.Need-add-i Inv-loop μ-loop
+add-i c = omega arith
+
+loop-less : tie.Need-loop-less Inv-loop μ-loop
+loop-less c = omega arith
+
+loop-again : tie.Need-loop-again Inv-loop μ-loop
+loop-again c =
+    let s = c .before .before .before in
+    let g = s .before .before .before in
+    let b = g .args .b in
+    let draft = g .args .draft in
+    let area = g .args .area .now in
+    let i = s .loop .i in
+    let low = g .pre .numerators-low i in
+    let bound = c .before .numerator-bound .ensures in
+    let line = outputLineFrom area i (numeratorStart b i) (numeratorBoundOf b i) in
+    let put = c .put-output .ensures ∙ ap₂ (λ start top. extended (s .loop .r) (outputLineFrom area i start top)) (s .loop .inv .1) bound in (
+      omega arith,
+      ap₂ (λ start top. start + 2 * (top + 1)) (s .loop .inv .1) bound ∙ sym (next-start b i),
+      omega arith,
+      put-both (held draft) (outputLines b area i) line (s .loop .inv .3) put ∙ ap (extended draft) (sym (next-line b i area)),
+    )
+
+returns : tie.Need-returns Inv-loop μ-loop
+returns c =
+    let s = c .before in
+    let g = s .before .before .before .args in
+    let all : s .loop .i ≡ g .b .outputs = omega arith in
+    s .loop .inv .3 ∙ ap (λ i. extended (g .draft) (outputLines (g .b) (g .area .now) i)) all
+
+pub put-outputs-spec : {M : Type 1} → statement M
+put-outputs-spec =
+    tie.close
+    (tie.spec
+    Inv-loop
+    μ-loop
+    add-start
+    mul-start
+    add-start-2
+    loop-holds
+    numerator-bound-requires
+    put-output-requires
+    add-start-3
+    mul-start-2
+    add-start-4
+    add-i
+    loop-less
+    loop-again
+    returns)

@@ -1,0 +1,62 @@
+use Prim.Native.Nat.{suc}
+use mathlib.Core.Path.{_≡_}
+use mathlib.Core.List.{[], _++_}
+use native.Mathlib.Nat.{lt-suc-self}
+use lib.ListN.{length}
+use Rattle.text.specs.Decimal.{decimalOf, itemOf}
+use Rattle.text.specs.Lines.{lineFeed}
+use Rattle.text.specs.Text.{refusedLabel, refusedText}
+use Rattle.text.proofs.Puts.{put-onto, held-whole}
+use Rattle.text.proofs.Lengths.{refused-short}
+use borrow.Author.Needs.{needs}
+use Rattle.text.proofs.refused.Statement.{statement}
+use Rattle.text.proofs.refused.Tie as tie
+
+empty-requires : tie.Need-empty-requires
+empty-requires c κs = search needs
+
+slice-aggregate-put-label : tie.Need-slice-aggregate-put-label
+slice-aggregate-put-label c = search needs
+
+put-label-requires : tie.Need-put-label-requires
+put-label-requires c κs = search needs
+
+put-decimal-requires : tie.Need-put-decimal-requires
+put-decimal-requires c κs = search needs
+
+put-item-requires : tie.Need-put-item-requires
+put-item-requires c κs = search needs
+
+put-byte-requires : tie.Need-put-byte-requires
+put-byte-requires c κs = search needs
+
+whole : (c : tie.After-put-byte) → length (c .put-byte .result .bytes) ≡ 1280
+whole c = let ok = c .put-byte .ok in search needs
+
+returns : tie.Need-returns
+returns c =
+    let item = c .before in
+    let decimal = item .before in
+    let label = decimal .before in
+    let none = label .before .before in
+    let s = none .before in
+    let number = s .args .number in
+    let row = s .args .row in
+    let one = put-onto [] refusedLabel (none .empty .ensures .0) (label .put-label .ensures) in
+    let two = put-onto refusedLabel (decimalOf number) one (decimal .put-decimal .ensures (suc number) (lt-suc-self number)) in
+    let three = put-onto (refusedLabel ++ decimalOf number) (itemOf row) two (item .put-item .ensures) in
+    let four = put-onto (refusedLabel ++ decimalOf number ++ itemOf row) lineFeed three (c .put-byte .ensures) in
+        held-whole (c .put-byte .result .bytes) (whole c) (c .put-byte .result .count) (refusedText number row)
+    (refused-short number row (s .fits .number .fits) (s .fits .row .fits)) four
+
+pub refused-spec : {M : Type 1} → statement M
+refused-spec =
+    tie.close
+    (tie.spec
+    empty-requires
+    slice-aggregate-put-label
+    put-label-requires
+    put-decimal-requires
+    put-item-requires
+    put-byte-requires
+    returns)

@@ -1,0 +1,61 @@
+use mathlib.Core.Path.{_≡_, sym, ap, subst, _∙_}
+use mathlib.Core.Bool.{true}
+use lib.Dec.{T}
+use borrow.Author.Tests.{not-true, not-false}
+use Rattle.answer.specs.Bytes.{overwritten}
+use Rattle.text.specs.Text.{isStorable}
+use Rattle.text.proofs.Writing.{storable-true, told-malformed, told-short, told-bytes}
+use borrow.Author.Needs.{needs}
+use native.Mathlib.Omega.{arith}
+use Rattle.text.proofs.write_text.Statement.{statement}
+use Rattle.text.proofs.write_text.Tie as tie
+
+storable-requires : tie.Need-storable-requires
+storable-requires c κs = search needs
+
+returns : tie.Need-returns
+returns c =
+    let g = c .before .before .before .before .args in
+    let bad = sym (c .before .storable .ensures) ∙ not-true _ (c .if1 .taken) in
+    let told = told-malformed (g .bounds) (g .outcome) (g .area .now) (g .buffer .now) bad in
+    (told .0, told .1, λ e. absurd (subst T (sym e ∙ bad) tt))
+
+good : (c : tie.Else1) → isStorable (c .before .before .before .before .args .bounds) ≡ true
+good c = sym (c .before .storable .ensures) ∙ not-false _ (c .if1 .left)
+
+text-of-requires : tie.Need-text-of-requires
+text-of-requires c κs = storable-true (c .before .before .before .before .args .bounds) (good c)
+
+returns-2 : tie.Need-returns-2
+returns-2 c =
+    let passed = c .before .before in
+    let g = passed .before .before .before .before .args in
+    let told = told-short (g .bounds) (g .outcome) (g .area .now) (g .buffer .now) (good passed) (omega arith) in
+    (told .0, told .1, λ e. omega arith)
+
+copy-out-requires : tie.Need-copy-out-requires
+copy-out-requires c κs = search needs
+
+same-length : tie.Need-same-length
+same-length c = search needs
+
+returns-3 : tie.Need-returns-3
+returns-3 c =
+    let made = c .before .before .before .before .before in
+    let passed = made .before in
+    let g = passed .before .before .before .before .args in
+    let text = made .text-of .ensures in
+    let told = told-bytes (g .bounds) (g .outcome) (g .area .now) (g .buffer .now) (good passed) (made .text-of .result .count) (text .1) (omega arith) in
+    (told .0, c .before .before .copy-out .ensures ∙ ap (λ l. overwritten l (g .buffer .now)) (text .0) ∙ told .1, λ e. omega arith)
+
+pub write-text-spec : {M : Type 1} → statement M
+write-text-spec =
+    tie.close
+    (tie.spec
+    storable-requires
+    returns
+    text-of-requires
+    returns-2
+    copy-out-requires
+    same-length
+    returns-3)

@@ -1,0 +1,4 @@
+pub mod Decimal
+pub mod Drafts
+pub mod Lines
+pub mod Text

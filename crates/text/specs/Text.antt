@@ -1,0 +1,63 @@
+-- Paper 01, "The printing program": the whole text, and what a lent buffer holds after it was written.
+use Prim.Native.Nat.{ℕ}
+use mathlib.Core.Bool.{Bool, false, cond}
+use mathlib.Core.List.{List, [], _∷_, _++_}
+use lib.Dec.{leb}
+use lib.ListN.{length}
+use Rattle.format.specs.Numbers.{wordFrom}
+use Rattle.format.specs.declared.Bounds.{Bounds}
+use Rattle.format.specs.declared.Outcome.{Outcome}
+use Rattle.format.specs.declared.Outcome.the-variants.{Accepted, Recovered, Refused}
+use Rattle.format.specs.Outcomes.{numberOf}
+use Rattle.answer.specs.Word.{marked}
+use Rattle.answer.specs.Bytes.{overwritten}
+use Rattle.text.specs.declared.Written.{Written}
+use Rattle.text.specs.declared.Written.the-variants.{Bytes, TooShort, Malformed}
+use Rattle.text.specs.Decimal.{decimalOf, itemOf}
+use Rattle.text.specs.Lines.{lineFeed, rowItems, coefficientFrom, coefficientsLine, outputLines}
+
+-- "recovered "
+abbrev pub recoveredLabel : List ℕ
+recoveredLabel = 114 ∷ 101 ∷ 99 ∷ 111 ∷ 118 ∷ 101 ∷ 114 ∷ 101 ∷ 100 ∷ 32 ∷ []
+
+-- "wrong"
+abbrev pub wrongLabel : List ℕ
+wrongLabel = 119 ∷ 114 ∷ 111 ∷ 110 ∷ 103 ∷ []
+
+-- "g"
+abbrev pub denominatorLabel : List ℕ
+denominatorLabel = 103 ∷ []
+
+-- "refused "
+abbrev pub refusedLabel : List ℕ
+refusedLabel = 114 ∷ 101 ∷ 102 ∷ 117 ∷ 115 ∷ 101 ∷ 100 ∷ 32 ∷ []
+
+-- "Line one has the number of wrong rows; line two lists them rising", then the lines of g and of each f, from the sheet's bytes s
+abbrev pub recoveredText : Bounds → ℕ → List ℕ → List ℕ
+recoveredText b wrong s =
+    recoveredLabel ++ decimalOf wrong ++ lineFeed ++ wrongLabel ++ rowItems 32 0 (marked (wordFrom s)) ++ lineFeed ++ denominatorLabel
+    ++ coefficientsLine (coefficientFrom s 4) (b .denominator) ++ outputLines b s (b .outputs)
+
+-- "A refused job prints one line, as refused 5 2: number and row"
+abbrev pub refusedText : ℕ → ℕ → List ℕ
+refusedText number row = refusedLabel ++ decimalOf number ++ itemOf row ++ lineFeed
+
+-- the text of an outcome; nothing for an accepted job, which is neither recovered nor refused
+abbrev pub textOf : Bounds → Outcome → List ℕ → List ℕ
+textOf b Accepted s = []
+textOf b (Recovered bytes wrong) s = recoveredText b wrong s
+textOf b (Refused reason row) s = refusedText (numberOf reason) row
+
+-- at most 4 outputs, and degrees of at most 31, as every job has
+abbrev pub isStorable : Bounds → Bool
+isStorable b = cond (leb (b .outputs) 4) (cond (leb (b .denominator) 31) (leb (b .numerator) 31) false) false
+
+-- what the call answers, where the buffer has so many bytes
+abbrev pub writtenOf : Bounds → Outcome → List ℕ → ℕ → Written
+writtenOf b outcome s room =
+    cond (isStorable b) (cond (leb (length (textOf b outcome s)) room) (Bytes (length (textOf b outcome s))) TooShort) Malformed
+
+-- what the buffer holds then: the text and, behind it, what it held before; all of that where there is no text or no room for it
+abbrev pub bufferAfter : Bounds → Outcome → List ℕ → List ℕ → List ℕ
+bufferAfter b outcome s old =
+    cond (isStorable b) (cond (leb (length (textOf b outcome s)) (length old)) (overwritten (textOf b outcome s) old) old) old

@@ -1,0 +1,77 @@
+// A text that is being made: bytes, labels and decimal numbers put one behind the other. What does not fit is dropped.
+ghost use Prim.Native.Nat.{ℕ, _<_, _≤_};
+ghost use mathlib.Core.Path.{_≡_};
+ghost use mathlib.Core.List.{[], _∷_};
+ghost use lib.ListN.{length};
+ghost use Rattle.answer.specs.Bytes.{overwritten};
+ghost use Rattle.text.specs.Drafts.{held, extended, Spells};
+ghost use Rattle.text.specs.Decimal.{digitsWithin, itemOf};
+
+// The first bytes are the text so far.
+pub struct Draft {
+    pub bytes: [u8; 1280],
+    pub count: usize,
+}
+
+pub fn empty() -> Draft
+    ensures { λ r. ⌜ Spells r [] ⌝ }
+{
+    Draft {
+        bytes: [0u8; 1280],
+        count: 0,
+    }
+}
+
+pub fn put_byte(draft: Draft, byte: u8) -> Draft
+    ensures { λ r. ⌜ held r ≡ extended draft (byte ∷ []) ⌝ }
+{
+    let at = draft.count;
+    if at < 1280 {
+        let mut bytes = draft.bytes;
+        bytes[at] = byte;
+        return Draft {
+            bytes: bytes,
+            count: at + 1,
+        };
+    }
+    draft
+}
+
+pub fn put_label(draft: Draft, label: &[u8]) -> Draft
+    ensures { λ r. ⌜ held r ≡ extended draft (now (label .entry)) ⌝ }
+{
+    let mut r = draft;
+    for k in 0..label.len() {
+        r = put_byte(r, label[k]);
+    }
+    r
+}
+
+// The number's decimal digits.
+pub fn put_decimal(draft: Draft, value: u32) -> Draft
+    ensures { λ r. ⌜ ((k : ℕ) → value < k → held r ≡ extended draft (digitsWithin k value)) ⌝ }
+{
+    if value < 10 {
+        return put_byte(draft, 48 + value as u8);
+    }
+    let front = put_decimal(draft, value / 10);
+    put_byte(front, 48 + (value % 10) as u8)
+}
+
+// A space and a number.
+pub fn put_item(draft: Draft, value: u32) -> Draft
+    ensures { λ r. ⌜ held r ≡ extended draft (itemOf value) ⌝ }
+{
+    put_decimal(put_byte(draft, 32), value)
+}
+
+// Copies the text to the buffer's start.
+pub fn copy_out(draft: Draft, buffer: &mut [u8])
+    requires { ⌜ (draft .count ≤ 1280) × (draft .count ≤ length (now buffer)) ⌝ }
+    ensures { λ _. ⌜ now (buffer .exit) ≡ overwritten (held draft) (now (buffer .entry)) ⌝ }
+{
+    let count = draft.count;
+    for k in 0..count {
+        buffer[k] = draft.bytes[k];
+    }
+}

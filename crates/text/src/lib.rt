@@ -1,0 +1,102 @@
+// Paper 01, "The printing program": the printed text, made in a lent buffer.
+mod draft;
+mod lines;
+
+ghost use Prim.Native.Nat.{_≤_};
+ghost use mathlib.Core.Path.{_≡_};
+ghost use mathlib.Core.Bool.{true};
+ghost use lib.ListN.{length};
+ghost use Rattle.format.specs.Bounds.{Storable};
+ghost use Rattle.text.specs.Drafts.{Spells};
+ghost use Rattle.text.specs.Text.{isStorable, recoveredText, refusedText, textOf, writtenOf, bufferAfter};
+use draft::Draft;
+use draft::copy_out;
+use draft::empty;
+use draft::put_byte;
+use draft::put_decimal;
+use draft::put_item;
+use draft::put_label;
+use format::Bounds;
+use format::Outcome;
+use lines::put_outputs;
+use lines::put_polynomial;
+use lines::put_rows;
+use lines::word_from;
+
+// How many bytes the text has, or why there is none.
+pub enum Written {
+    Bytes(usize),
+    // The buffer is shorter than the text.
+    TooShort,
+    // More than 4 outputs or a degree bound above 31: no job has such bounds.
+    Malformed,
+}
+
+fn storable(b: Bounds) -> bool
+    ensures { λ r. ⌜ r ≡ isStorable b ⌝ }
+{
+    if 4 < b.outputs {
+        return false;
+    }
+    if 31 < b.denominator {
+        return false;
+    }
+    b.numerator <= 31
+}
+
+// The text of an answer whose bytes stand in the area.
+fn recovered(b: Bounds, wrong: u32, area: &[u8]) -> Draft
+    requires { ⌜ Storable b ⌝ }
+    ensures { λ r. ⌜ Spells r (recoveredText b wrong (now (area .entry))) ⌝ }
+{
+    let named = put_label(empty(), b"recovered ");
+    let first = put_byte(put_decimal(named, wrong), b'\n');
+    let listing = put_rows(put_label(first, b"wrong"), word_from(area));
+    let second = put_byte(listing, b'\n');
+    let dg = b.denominator;
+    let third = put_polynomial(put_label(second, b"g"), area, 4, dg);
+    put_outputs(third, area, b)
+}
+
+fn refused(number: u32, row: u32) -> Draft
+    ensures { λ r. ⌜ Spells r (refusedText number row) ⌝ }
+{
+    let named = put_label(empty(), b"refused ");
+    let numbered = put_item(put_decimal(named, number), row);
+    put_byte(numbered, b'\n')
+}
+
+// An accepted job has no text yet.
+fn text_of(b: Bounds, outcome: Outcome, area: &[u8]) -> Draft
+    requires { ⌜ Storable b ⌝ }
+    ensures { λ r. ⌜ Spells r (textOf b outcome (now (area .entry))) ⌝ }
+{
+    match outcome {
+        Outcome::Accepted => empty(),
+        Outcome::Recovered { bytes: _, wrong } => recovered(b, wrong, area),
+        Outcome::Refused { reason, row } => {
+            let number = format::number(reason);
+            refused(number, row)
+        }
+    }
+}
+
+// Writes the text of an outcome to the buffer's start. The area holds the answer's bytes where there is one; a byte past its end
+// is read as 0. Where no text is written, the buffer keeps its contents. A buffer of 1280 bytes has room for any text.
+pub fn write_text(bounds: Bounds, outcome: Outcome, area: &[u8], buffer: &mut [u8]) -> Written
+    ensures { λ r.
+        ⌜ (r ≡ writtenOf bounds outcome (now (area .entry)) (length (now (buffer .entry))))
+        × (now (buffer .exit) ≡ bufferAfter bounds outcome (now (area .entry)) (now (buffer .entry)))
+        × (isStorable bounds ≡ true → length (textOf bounds outcome (now (area .entry))) ≤ 1280) ⌝ }
+{
+    if !storable(bounds) {
+        return Written::Malformed;
+    }
+    let text = text_of(bounds, outcome, area);
+    let count = text.count;
+    if buffer.len() < count {
+        return Written::TooShort;
+    }
+    copy_out(text, buffer);
+    Written::Bytes(count)
+}

@@ -1,0 +1,90 @@
+/*
+ * Hanthuvelo: recovers polynomials over a common denominator from rows of values, some of them wrong.
+ *
+ * Given rows (x; y1 .. yn) modulo a prime p, the library finds the reduced fractions f1/g .. fn/g within the
+ * degree bounds that are wrong at no more than E rows, and says which rows those are; or it says that there
+ * are none.
+ *
+ * Link target/staticlib/libcapi.a, which `rt staticlib capi` writes, for x86-64 Linux. It needs nothing beside
+ * the C library. What the function promises is its contract in crates/capi/src/lib.rt, which is proved.
+ */
+#ifndef HANTHUVELO_H
+#define HANTHUVELO_H
+
+#include <stddef.h>
+#include <stdint.h>
+
+#ifdef __cplusplus
+extern "C" {
+#endif
+
+/* The most bytes that a job can have: 31 rows, 4 outputs. */
+#define HANTHUVELO_JOB_MAX 313
+
+/* The most bytes that an answer can have; an area of this length is never refused as too short. */
+#define HANTHUVELO_ANSWER_MAX 254
+
+/*
+ * A job. Its numbers are packed with the most significant bit first.
+ *
+ *   bits  field
+ *   2     prime: 0 is 7, 1 is 97, 2 is 257, 3 is 65521
+ *   2     n - 1, for n outputs
+ *   5     L, the number of rows
+ *   5     df, the degree bound of every f
+ *   5     dg, the degree bound of g
+ *   4     E, how many rows may be wrong
+ *   1     0
+ *
+ * L rows follow, each a point and n values, 16 bits a number: 3 + 2 L (1 + n) bytes in all.
+ *
+ * An answer. A 32-bit word comes first: row r, counted from 0, has the bit r places below the top, and a 1 says
+ * that the row is wrong. Then dg + 1 coefficients of g, and df + 1 of each of f1 .. fn, each from the constant
+ * term upward, 16 bits a number, most significant byte first: 4 + 2 ((dg + 1) + n (df + 1)) bytes in all.
+ * g has leading coefficient 1, and no polynomial of positive degree divides g and every f. A row is right if
+ * fi(x) = g(x) yi modulo p for every i.
+ */
+
+/* The refusals, in the order in which they are tested; the first that applies is returned. */
+enum {
+    HANTHUVELO_RECOVERED = 0,      /* not refused: the area begins with the answer */
+    HANTHUVELO_TOO_SHORT = 1,      /* the job has fewer than 3 bytes */
+    HANTHUVELO_SPARE_BIT = 2,      /* the header's last bit is 1 */
+    HANTHUVELO_BYTE_COUNT = 3,     /* the job has not the number of bytes that its header fixes */
+    HANTHUVELO_TOO_FEW_ROWS = 4,   /* L is below df + dg + 2 E + 1 */
+    HANTHUVELO_OUT_OF_RANGE = 5,   /* a point or a value is p or more; `row` is the first such row */
+    HANTHUVELO_REPEATED_POINT = 6, /* a point stands in an earlier row; `row` is the first such later row */
+    HANTHUVELO_AREA_TOO_SHORT = 7, /* the area is shorter than the answer */
+    HANTHUVELO_NO_ANSWER = 8       /* no reduced fractions within df and dg are wrong at E rows or fewer */
+};
+
+/* What a call returns. */
+struct hanthuvelo_report {
+    uint32_t refusal; /* 0 if the job is recovered, else the number of the refusal */
+    uint32_t row;     /* the row that refusal 5 or 6 speaks of, counted from 0; else 0 */
+    uint32_t written; /* how many bytes of the area were written; 0 if the job is refused */
+    uint32_t wrong;   /* how many rows are wrong, the ones in the answer's word; 0 if the job is refused */
+};
+
+/*
+ * Recovers the job of job_length bytes at `job`, and writes the answer to the start of the area_length bytes
+ * at `area`.
+ *
+ * Any bytes make a job, and any length an area. Bytes of the area behind the answer keep what they held; if the
+ * job is refused, the whole area does. The job is only read.
+ *
+ * The caller sees to it that each pointer leads to as many bytes as the length beside it says, that the two
+ * stretches do not overlap, and that until the call returns nothing else writes to either of them or reads the
+ * area. A pointer whose length is 0 is not followed.
+ *
+ * The call allocates no memory and keeps nothing between calls, so threads may call it at the same time, each
+ * with an area of its own; they may share a job.
+ */
+struct hanthuvelo_report hanthuvelo_recover(const uint8_t *job, size_t job_length, uint8_t *area,
+                                            size_t area_length);
+
+#ifdef __cplusplus
+}
+#endif
+
+#endif

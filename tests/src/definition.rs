@@ -1,0 +1,103 @@
+//! Paper 01's definition itself: every answer of a small job, by trying all polynomials.
+
+use crate::layout::{is_right, wrong_rows, Answer, Job};
+
+/// Every reduced answer within the job's bounds with at most E wrong rows.
+///
+/// All g with leading coefficient 1 and all f are tried, so the job must be tiny.
+pub fn answers(job: &Job) -> Vec<Answer> {
+    let mut found = Vec::new();
+    let width = job.numerator_bound + 1;
+    for denominator in monic_polynomials(job.denominator_bound, job.prime()) {
+        for_each_list(job.outputs * width, job.prime(), &mut |coefficients| {
+            if !has_few_wrong_rows(job, &denominator, coefficients) {
+                return;
+            }
+            let numerators: Vec<Vec<u32>> =
+                coefficients.chunks(width).map(<[u32]>::to_vec).collect();
+            if is_reduced(&denominator, &numerators, job.prime()) {
+                let word = wrong_rows(job, &denominator, &numerators);
+                found.push(Answer {
+                    word,
+                    denominator: denominator.clone(),
+                    numerators,
+                });
+            }
+        });
+    }
+    found
+}
+
+/// At most E rows are wrong, the numerators standing one after the other in `coefficients`.
+fn has_few_wrong_rows(job: &Job, denominator: &[u32], coefficients: &[u32]) -> bool {
+    let wrong = job.rows.iter().filter(|row| {
+        let numerators = coefficients.chunks(job.numerator_bound + 1);
+        !is_right(denominator, numerators, row, job.prime())
+    });
+    wrong.take(job.error_bound + 1).count() <= job.error_bound
+}
+
+/// How many pairs `answers` tries for a job, or the largest number where they are more.
+pub fn candidates(job: &Job) -> u64 {
+    let count = |length: usize| u64::from(job.prime()).saturating_pow(length as u32);
+    let denominators = (0..=job.denominator_bound).map(count);
+    let numerators = count(job.outputs * (job.numerator_bound + 1));
+    denominators
+        .fold(0, u64::saturating_add)
+        .saturating_mul(numerators)
+}
+
+/// No polynomial of positive degree divides g and every fi. A divisor can be taken monic, and its
+/// degree is at most that of g.
+fn is_reduced(denominator: &[u32], numerators: &[Vec<u32>], prime: u32) -> bool {
+    let degree = denominator.len() - 1;
+    monic_polynomials(degree, prime)
+        .iter()
+        .filter(|divisor| divisor.len() > 1)
+        .all(|divisor| {
+            !divides(divisor, denominator, prime)
+                || !numerators
+                    .iter()
+                    .all(|numerator| divides(divisor, numerator, prime))
+        })
+}
+
+/// Whether a monic polynomial divides another one: its leading term is taken out from the top.
+fn divides(divisor: &[u32], polynomial: &[u32], prime: u32) -> bool {
+    let mut rest = polynomial.to_vec();
+    while rest.len() >= divisor.len() {
+        let factor = rest[rest.len() - 1];
+        let start = rest.len() - divisor.len();
+        for (entry, &coefficient) in rest[start..].iter_mut().zip(divisor) {
+            *entry = (*entry + (prime - factor) * coefficient) % prime;
+        }
+        rest.pop();
+    }
+    rest.iter().all(|&coefficient| coefficient == 0)
+}
+
+/// All polynomials with leading coefficient 1 and degree at most `bound`, ending in that 1.
+fn monic_polynomials(bound: usize, prime: u32) -> Vec<Vec<u32>> {
+    let mut all = Vec::new();
+    for degree in 0..=bound {
+        for_each_list(degree, prime, &mut |lower| {
+            let mut polynomial = lower.to_vec();
+            polynomial.push(1);
+            all.push(polynomial);
+        });
+    }
+    all
+}
+
+/// Calls `visit` with every list of `length` residues.
+pub fn for_each_list(length: usize, prime: u32, visit: &mut dyn FnMut(&[u32])) {
+    let mut list = vec![0; length];
+    loop {
+        visit(&list);
+        let Some(place) = list.iter().position(|&entry| entry + 1 < prime) else {
+            return;
+        };
+        list[place] += 1;
+        list[..place].fill(0);
+    }
+}

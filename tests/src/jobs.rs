@@ -1,0 +1,214 @@
+//! Generated jobs: seeded and repeatable, each labelled with what it was made to be.
+
+pub mod enlargement;
+mod faulty;
+mod fraction;
+pub mod measured;
+mod planted;
+mod random;
+mod tally;
+
+use crate::hex;
+use crate::layout::Answer;
+use crate::library::Report;
+use planted::{planted, Planted, Shape, WrongRows};
+pub use random::Random;
+pub use tally::{Kind, Tally};
+
+/// What the generator knows of a job's outcome.
+pub enum Expected {
+    /// These bytes at the start of the area, with this many wrong rows.
+    Answered {
+        bytes: Vec<u8>,
+        wrong: u32,
+    },
+    Refused {
+        number: u32,
+        row: u32,
+    },
+    /// Either refused with 8 or answered by something else than these polynomials.
+    NotThis {
+        bytes: Vec<u8>,
+    },
+    /// The solvers are only compared with each other.
+    Open,
+}
+
+/// A job with the area that is lent with it.
+pub struct GeneratedJob {
+    pub seed: u64,
+    pub index: u64,
+    pub kinds: Vec<Kind>,
+    pub bytes: Vec<u8>,
+    pub area: Vec<u8>,
+    pub expected: Expected,
+}
+
+/// Where jobs come from, with the share of each in fifty jobs.
+const PLAN: [(Source, usize); 24] = [
+    (Source::Planted(Shape::Any, WrongRows::Exact), 11),
+    (Source::Planted(Shape::Poles, WrongRows::Exact), 6),
+    (Source::Planted(Shape::Any, WrongRows::Fewer), 4),
+    (Source::Planted(Shape::Poles, WrongRows::Fewer), 3),
+    (Source::Planted(Shape::Any, WrongRows::None), 2),
+    (Source::Planted(Shape::CommonFactor, WrongRows::Exact), 2),
+    (Source::Planted(Shape::CommonFactor, WrongRows::Fewer), 1),
+    (Source::Planted(Shape::AllZero, WrongRows::Exact), 1),
+    (Source::Planted(Shape::AllZero, WrongRows::Fewer), 1),
+    (Source::Planted(Shape::WholeField, WrongRows::Exact), 1),
+    (Source::Planted(Shape::WholeField, WrongRows::Fewer), 1),
+    (Source::Planted(Shape::LooseBounds, WrongRows::Exact), 1),
+    (Source::Planted(Shape::LooseBounds, WrongRows::Fewer), 1),
+    (Source::Planted(Shape::Any, WrongRows::OneTooMany), 4),
+    (Source::Planted(Shape::Poles, WrongRows::OneTooMany), 1),
+    (Source::Planted(Shape::WholeField, WrongRows::OneTooMany), 1),
+    (Source::Faulty(1, 2), 1),
+    (Source::Faulty(3, 3), 1),
+    (Source::Faulty(4, 4), 1),
+    (Source::Faulty(5, 5), 1),
+    (Source::Faulty(6, 6), 1),
+    (Source::Faulty(7, 7), 1),
+    (Source::RandomValues, 1),
+    (Source::DamagedOrRandom, 2),
+];
+
+#[derive(Clone, Copy)]
+enum Source {
+    Planted(Shape, WrongRows),
+    /// Made to be refused with one of these two numbers.
+    Faulty(u32, u32),
+    RandomValues,
+    DamagedOrRandom,
+}
+
+/// The job of this number in the run of this seed.
+pub fn generate(seed: u64, index: u64) -> GeneratedJob {
+    let mut random = Random::new(seed, index);
+    let mut job = match source_of(index) {
+        Source::Planted(shape, wrong) => from_planted(&mut random, shape, wrong),
+        Source::Faulty(number, other) => {
+            let number = if random.once_in(2) { number } else { other };
+            faulty::refused(&mut random, number)
+        }
+        Source::RandomValues => faulty::random_values(&mut random),
+        Source::DamagedOrRandom if random.once_in(2) => faulty::damaged(&mut random),
+        Source::DamagedOrRandom => faulty::random_bytes(&mut random),
+    };
+    job.seed = seed;
+    job.index = index;
+    job
+}
+
+fn source_of(index: u64) -> Source {
+    let mut slots = PLAN
+        .iter()
+        .flat_map(|&(source, parts)| std::iter::repeat_n(source, parts));
+    slots
+        .nth((index % 50) as usize)
+        .expect("the plan has 50 parts")
+}
+
+fn from_planted(random: &mut Random, shape: Shape, wrong: WrongRows) -> GeneratedJob {
+    let planted = planted(random, shape, wrong);
+    let mut kinds = labels(shape, wrong);
+    if planted.has_pole() {
+        kinds.push(Kind::Pole);
+    }
+    let bytes = planted.answer().pack(&planted.job);
+    let expected = if wrong == WrongRows::OneTooMany {
+        Expected::NotThis { bytes }
+    } else {
+        let wrong = planted.word.count_ones();
+        Expected::Answered { bytes, wrong }
+    };
+    let surplus = match random.below(2) {
+        0 => 0,
+        _ => random.between(1, 40),
+    };
+    kinds.push(match surplus {
+        0 => Kind::ExactArea,
+        _ => Kind::LongArea,
+    });
+    let area_length = planted.job.answer_length() + surplus;
+    new_job(random, kinds, planted.job.pack(), area_length, expected)
+}
+
+fn labels(shape: Shape, wrong: WrongRows) -> Vec<Kind> {
+    let mut kinds = vec![match wrong {
+        WrongRows::None => Kind::NoErrors,
+        WrongRows::Fewer => Kind::FewerErrors,
+        WrongRows::Exact => Kind::ExactErrors,
+        WrongRows::OneTooMany => Kind::OneErrorTooMany,
+    }];
+    match shape {
+        Shape::Any | Shape::Poles => {}
+        Shape::CommonFactor => kinds.push(Kind::CommonFactor),
+        Shape::AllZero => kinds.push(Kind::AllZero),
+        Shape::WholeField => kinds.push(Kind::WholeField),
+        Shape::LooseBounds => kinds.push(Kind::LooseBounds),
+    }
+    kinds
+}
+
+impl Planted {
+    fn answer(&self) -> Answer {
+        Answer {
+            word: self.word,
+            denominator: self.denominator.clone(),
+            numerators: self.numerators.clone(),
+        }
+    }
+}
+
+/// A job with an area of random contents.
+fn new_job(
+    random: &mut Random,
+    kinds: Vec<Kind>,
+    bytes: Vec<u8>,
+    area_length: usize,
+    expected: Expected,
+) -> GeneratedJob {
+    let area = random.bytes(area_length);
+    GeneratedJob {
+        seed: 0,
+        index: 0,
+        kinds,
+        bytes,
+        area,
+        expected,
+    }
+}
+
+impl GeneratedJob {
+    /// Everything needed to try the job again.
+    pub fn describe(&self) -> String {
+        format!(
+            "seed {} job {} kinds {:?}\njob bytes {}\narea before {}",
+            self.seed,
+            self.index,
+            self.kinds,
+            hex::text(&self.bytes),
+            hex::text(&self.area)
+        )
+    }
+
+    /// What the outcome breaks of what the generator knows, if anything.
+    pub fn complaint(&self, report: Report, area: &[u8]) -> Option<String> {
+        match &self.expected {
+            Expected::Answered { bytes, wrong } => {
+                let written = bytes.len();
+                let fits = report == Report::answered(written as u32, *wrong)
+                    && area[..written] == bytes[..];
+                (!fits).then(|| format!("expected {} wrong, {}", wrong, hex::text(bytes)))
+            }
+            Expected::Refused { number, row } => (report != Report::refused(*number, *row))
+                .then(|| format!("expected refusal {number}, row {row}")),
+            Expected::NotThis { bytes } => {
+                let other = report == Report::refused(8, 0)
+                    || report.is_answered() && area[4..bytes.len()] != bytes[4..];
+                (!other).then(|| "answered with more than E wrong rows".to_string())
+            }
+            Expected::Open => None,
+        }
+    }
+}

@@ -1,0 +1,125 @@
+//! Pairs of jobs for the enlargement rule of paper 01: the larger one holds every row of the
+//! smaller one, in another order, with further rows and bounds of its own.
+
+use super::planted::{planted, Planted, Shape, WrongRows};
+use super::random::Random;
+use crate::layout::{value_at, wrong_rows, Job, Row, MOST_ROWS};
+use crate::second::Field;
+
+pub struct Pair {
+    pub smaller: Job,
+    pub larger: Job,
+}
+
+/// The pair of this number in the run of this seed.
+pub fn generate(seed: u64, index: u64) -> Pair {
+    let mut random = Random::new(seed, index);
+    let shapes = [
+        Shape::Any,
+        Shape::Poles,
+        Shape::AllZero,
+        Shape::LooseBounds,
+        Shape::Any,
+    ];
+    let shape = shapes[random.below(shapes.len())];
+    let wrong = match random.below(8) {
+        0 if shape != Shape::Poles => WrongRows::None,
+        1 => WrongRows::OneTooMany,
+        2..=4 => WrongRows::Fewer,
+        _ => WrongRows::Exact,
+    };
+    let planted = planted(&mut random, shape, wrong);
+    let mut larger = Job {
+        rows: Vec::new(),
+        ..planted.job
+    };
+    larger.rows = planted.job.rows.clone();
+    add_rows(&mut random, &planted, &mut larger);
+    draw_bounds(&mut random, &planted, &mut larger);
+    random.shuffle(&mut larger.rows);
+    Pair {
+        smaller: planted.job,
+        larger,
+    }
+}
+
+/// Further rows at free points: mostly right ones, or none at all, or some wrong ones.
+fn add_rows(random: &mut Random, planted: &Planted, larger: &mut Job) {
+    let prime = larger.prime();
+    let space = MOST_ROWS.min(prime as usize) - larger.rows.len();
+    let count = if random.once_in(6) {
+        0
+    } else {
+        random.between(0, space)
+    };
+    let wrong_share = random.between(1, 6);
+    let pole = free_pole(planted);
+    for added in 0..count {
+        let point = match pole {
+            Some(pole) if added == 0 => pole,
+            _ => free_point(random, larger),
+        };
+        let wrong = random.once_in(wrong_share);
+        larger.rows.push(row_at(random, planted, point, wrong));
+    }
+}
+
+fn free_point(random: &mut Random, job: &Job) -> u32 {
+    loop {
+        let point = random.residue(job.prime());
+        if job.rows.iter().all(|row| row.point != point) {
+            return point;
+        }
+    }
+}
+
+/// A root of g that is no point yet; only looked for in the smaller fields.
+fn free_pole(planted: &Planted) -> Option<u32> {
+    let prime = planted.job.prime();
+    let is_free = |point: &u32| planted.job.rows.iter().all(|row| row.point != *point);
+    let mut points = 0..if prime < 1000 { prime } else { 0 };
+    points.find(|point| value_at(&planted.denominator, *point, prime) == 0 && is_free(point))
+}
+
+/// The row that is right at a point, or random values where there is none or a wrong one is wanted.
+fn row_at(random: &mut Random, planted: &Planted, point: u32, wrong: bool) -> Row {
+    let prime = planted.job.prime();
+    let field = Field::new(prime);
+    let below = value_at(&planted.denominator, point, prime);
+    let values = if wrong || below == 0 {
+        (0..planted.job.outputs)
+            .map(|_| random.residue(prime))
+            .collect()
+    } else {
+        let unit = field.reciprocal(below);
+        let value = |f: &Vec<u32>| field.multiply(value_at(f, point, prime), unit);
+        planted.numerators.iter().map(value).collect()
+    };
+    Row { point, values }
+}
+
+/// Bounds that the fraction meets and that the rows suffice for; E is often the number of wrong
+/// rows, or one less.
+fn draw_bounds(random: &mut Random, planted: &Planted, larger: &mut Job) {
+    let numerator_degree = planted
+        .numerators
+        .iter()
+        .map(|f| f.len().saturating_sub(1))
+        .max()
+        .unwrap_or(0);
+    let denominator_degree = planted.denominator.len() - 1;
+    let room = larger.rows.len() - 1 - numerator_degree - denominator_degree;
+    let wrong = wrong_rows(larger, &planted.denominator, &planted.numerators).count_ones() as usize;
+    let most_errors = 15.min(room / 2);
+    let errors = match random.below(5) {
+        0 | 1 => wrong,
+        2 => wrong.saturating_sub(1),
+        _ => random.between(0, most_errors),
+    };
+    larger.error_bound = errors.min(most_errors);
+    let room = room - 2 * larger.error_bound;
+    let sum = random.between(0, room);
+    let part = random.between(0, sum);
+    larger.numerator_bound = numerator_degree + part;
+    larger.denominator_bound = denominator_degree + sum - part;
+}

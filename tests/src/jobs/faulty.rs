@@ -1,0 +1,291 @@
+//! Jobs with faults: made to be refused with a given number, damaged, or random.
+
+use super::planted::{planted, Shape, WrongRows};
+use super::{new_job, Expected, GeneratedJob, Kind, Random};
+use crate::layout::{Job, Row, PRIMES};
+
+/// A well formed job to be spoilt.
+fn sound_job(random: &mut Random) -> Job {
+    let wrong = match random.below(3) {
+        0 => WrongRows::None,
+        1 => WrongRows::Exact,
+        _ => WrongRows::OneTooMany,
+    };
+    planted(random, Shape::Any, wrong).job
+}
+
+/// An area that is often too short as well, which only matters where nothing else is wrong.
+fn any_area(random: &mut Random) -> usize {
+    random.below(300)
+}
+
+/// A job that paper 01 refuses with `number`, for a reason that the generator put in.
+pub fn refused(random: &mut Random, number: u32) -> GeneratedJob {
+    match number {
+        1 => too_short(random),
+        2 => spare_bit(random),
+        3 => wrong_length(random),
+        4 => too_few_rows(random),
+        5 => out_of_range(random),
+        6 => repeated_point(random),
+        _ => short_area(random),
+    }
+}
+
+fn faulty(
+    random: &mut Random,
+    mut kinds: Vec<Kind>,
+    two_faults: bool,
+    bytes: Vec<u8>,
+    refusal: (u32, u32),
+) -> GeneratedJob {
+    if two_faults {
+        kinds.push(Kind::TwoFaults);
+    }
+    let area_length = any_area(random);
+    let expected = Expected::Refused {
+        number: refusal.0,
+        row: refusal.1,
+    };
+    new_job(random, kinds, bytes, area_length, expected)
+}
+
+fn too_short(random: &mut Random) -> GeneratedJob {
+    let mut bytes = sound_job(random).pack();
+    bytes.truncate(random.below(3));
+    faulty(random, vec![Kind::Refused1], false, bytes, (1, 0))
+}
+
+fn spare_bit(random: &mut Random) -> GeneratedJob {
+    let mut bytes = sound_job(random).pack();
+    bytes[2] |= 1;
+    let two_faults = random.once_in(2);
+    if two_faults {
+        bytes.truncate(random.between(3, bytes.len() - 1));
+    }
+    faulty(random, vec![Kind::Refused2], two_faults, bytes, (2, 0))
+}
+
+/// Bytes missing, bytes too many, or another number of rows in the header.
+fn wrong_length(random: &mut Random) -> GeneratedJob {
+    let mut bytes = sound_job(random).pack();
+    let two_faults = random.once_in(3);
+    if two_faults {
+        // Bounds that ask for more rows than any job has.
+        bytes[1] |= 0x7F;
+    }
+    match random.below(5) {
+        0 => bytes.truncate(bytes.len() - 1),
+        1 => bytes.truncate(random.between(3, bytes.len() - 1)),
+        2 => bytes.push(random.byte()),
+        3 => {
+            let surplus = random.between(1, 400);
+            bytes.extend(random.bytes(surplus));
+        }
+        _ => bytes[1] ^= 0x80,
+    }
+    faulty(random, vec![Kind::Refused3], two_faults, bytes, (3, 0))
+}
+
+/// Rows are taken away, or df is raised, until one row or more is missing.
+fn too_few_rows(random: &mut Random) -> GeneratedJob {
+    let mut job = sound_job(random);
+    let needed = job.needed_rows();
+    match random.below(3) {
+        0 => job.rows.truncate(needed - 1),
+        1 => job.rows.truncate(random.below(needed)),
+        _ => {
+            let least = job.rows.len() - job.denominator_bound - 2 * job.error_bound;
+            job.numerator_bound = random.between(least, 31);
+        }
+    }
+    let two_faults = random.once_in(2) && !job.rows.is_empty();
+    if two_faults {
+        let row = random.below(job.rows.len());
+        job.rows[row].values[0] = 65535;
+    }
+    faulty(random, vec![Kind::Refused4], two_faults, job.pack(), (4, 0))
+}
+
+/// More rows than residues modulo 7, so some point is repeated.
+fn crowded_job(random: &mut Random) -> Job {
+    let rows = (0..random.between(8, 31))
+        .map(|_| Row {
+            point: random.residue(7),
+            values: vec![random.residue(7)],
+        })
+        .collect();
+    let (numerator_bound, denominator_bound) = (random.below(3), random.below(2));
+    let error_bound = random.below(3);
+    Job {
+        prime_code: 0,
+        outputs: 1,
+        numerator_bound,
+        denominator_bound,
+        error_bound,
+        rows,
+    }
+}
+
+/// A job for the refusals 5 and 6, with two rows or more.
+fn job_with_rows(random: &mut Random, kinds: &mut Vec<Kind>) -> Job {
+    if random.once_in(5) {
+        kinds.push(Kind::MoreRowsThanPrime);
+        return crowded_job(random);
+    }
+    loop {
+        let job = sound_job(random);
+        if job.rows.len() >= 2 {
+            return job;
+        }
+    }
+}
+
+/// A point or a value becomes p or more, often the least such number.
+fn out_of_range(random: &mut Random) -> GeneratedJob {
+    let mut kinds = vec![Kind::Refused5];
+    let mut job = job_with_rows(random, &mut kinds);
+    let prime = job.prime() as usize;
+    let two_faults = random.once_in(3);
+    if two_faults {
+        job.rows[1].point = job.rows[0].point;
+    }
+    let mut first = job.rows.len();
+    for _ in 0..random.between(1, 3) {
+        let row = random.below(job.rows.len());
+        let number = if random.once_in(2) {
+            prime
+        } else {
+            random.between(prime, 65535)
+        };
+        let place = random.below(1 + job.outputs);
+        match place {
+            0 => job.rows[row].point = number as u32,
+            _ => job.rows[row].values[place - 1] = number as u32,
+        }
+        first = first.min(row);
+    }
+    faulty(random, kinds, two_faults, job.pack(), (5, first as u32))
+}
+
+/// A point is copied from one row to others.
+fn repeated_point(random: &mut Random) -> GeneratedJob {
+    let mut kinds = vec![Kind::Refused6];
+    let mut job = job_with_rows(random, &mut kinds);
+    for _ in 0..random.between(1, 2) {
+        let later = random.between(1, job.rows.len() - 1);
+        job.rows[later].point = job.rows[random.below(later)].point;
+    }
+    let points: Vec<u32> = job.rows.iter().map(|row| row.point).collect();
+    let repeats = |later: &usize| points[..*later].contains(&points[*later]);
+    let first = (1..points.len())
+        .find(repeats)
+        .expect("a point was repeated");
+    faulty(random, kinds, false, job.pack(), (6, first as u32))
+}
+
+fn short_area(random: &mut Random) -> GeneratedJob {
+    let job = sound_job(random);
+    let needed = job.answer_length();
+    let mut kinds = vec![Kind::Refused7];
+    let area_length = match random.below(4) {
+        0 => 0,
+        1 => random.below(needed),
+        _ => needed - 1,
+    };
+    if area_length == needed - 1 {
+        kinds.push(Kind::AreaShortByOne);
+    }
+    let expected = Expected::Refused { number: 7, row: 0 };
+    new_job(random, kinds, job.pack(), area_length, expected)
+}
+
+/// A well formed job whose values mean nothing: mostly refused with 8.
+pub fn random_values(random: &mut Random) -> GeneratedJob {
+    let mut job = sound_job(random);
+    let prime = job.prime();
+    for row in &mut job.rows {
+        row.values
+            .iter_mut()
+            .for_each(|value| *value = random.residue(prime));
+    }
+    let area_length = job.answer_length() + random.below(3);
+    new_job(
+        random,
+        vec![Kind::RandomValues],
+        job.pack(),
+        area_length,
+        Expected::Open,
+    )
+}
+
+/// A job with some bytes changed, lost or doubled.
+pub fn damaged(random: &mut Random) -> GeneratedJob {
+    let job = sound_job(random);
+    let mut bytes = job.pack();
+    for _ in 0..random.between(1, 3) {
+        let place = random.below(bytes.len());
+        match random.below(8) {
+            0 => bytes[place] = random.byte(),
+            1..=5 => bytes[place] ^= 1 << random.below(8),
+            6 => bytes.insert(place, random.byte()),
+            _ => {
+                bytes.remove(place);
+            }
+        }
+    }
+    let area_length = if random.once_in(4) {
+        any_area(random)
+    } else {
+        254
+    };
+    new_job(
+        random,
+        vec![Kind::DamagedBytes],
+        bytes,
+        area_length,
+        Expected::Open,
+    )
+}
+
+/// Random bytes, half of them with the length that their header asks for.
+pub fn random_bytes(random: &mut Random) -> GeneratedJob {
+    let mut length = random.below(330);
+    let mut bytes = random.bytes(length);
+    if length >= 3 && random.once_in(2) {
+        bytes[2] &= 0xFE;
+        let rows = usize::from(bytes[0] & 15) * 2 + usize::from(bytes[1] >> 7);
+        let outputs = usize::from(bytes[0] >> 4 & 3) + 1;
+        // Small bounds, so that the tests behind 4 are reached.
+        bytes[1] &= 0x84;
+        bytes[2] &= 0x26;
+        length = 3 + 2 * rows * (1 + outputs);
+        bytes.truncate(length);
+        let missing = length - bytes.len();
+        bytes.extend(random.bytes(missing));
+        let prime = PRIMES[usize::from(bytes[0] >> 6)];
+        if random.once_in(2) {
+            keep_in_range(&mut bytes[3..], prime);
+        }
+    }
+    let area_length = if random.once_in(4) {
+        any_area(random)
+    } else {
+        254
+    };
+    new_job(
+        random,
+        vec![Kind::RandomBytes],
+        bytes,
+        area_length,
+        Expected::Open,
+    )
+}
+
+/// Makes every 16-bit number a residue.
+fn keep_in_range(numbers: &mut [u8], prime: u32) {
+    for pair in numbers.chunks_mut(2) {
+        let number = (u32::from(pair[0]) * 256 + u32::from(pair[1])) % prime;
+        pair.copy_from_slice(&(number as u16).to_be_bytes());
+    }
+}

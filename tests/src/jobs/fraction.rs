@@ -1,0 +1,121 @@
+//! Random reduced fractions within a job's bounds.
+
+use super::planted::Shape;
+use super::random::Random;
+use crate::layout::Job;
+use crate::second::polynomial::Polynomial;
+use crate::second::Field;
+
+/// A reduced fraction, and the factor by which it was enlarged before its values were taken.
+pub struct Fraction {
+    pub denominator: Polynomial,
+    pub numerators: Vec<Polynomial>,
+    pub common_factor: Polynomial,
+}
+
+impl Fraction {
+    /// A fraction of this shape, or `None` where the draw does not serve.
+    pub fn draw(
+        random: &mut Random,
+        job: &Job,
+        shape: Shape,
+        wrong_count: usize,
+    ) -> Option<Fraction> {
+        match shape {
+            Shape::AllZero => Some(Fraction {
+                denominator: Polynomial::one(),
+                numerators: vec![Polynomial::zero(); job.outputs],
+                common_factor: Polynomial::one(),
+            }),
+            Shape::LooseBounds => {
+                let (df, dg) = (job.numerator_bound.min(1), job.denominator_bound.min(1));
+                Fraction::reduced(random, job, df, dg, 0)
+            }
+            Shape::Poles => {
+                let poles = random.between(1, job.denominator_bound.min(wrong_count));
+                Fraction::reduced(
+                    random,
+                    job,
+                    job.numerator_bound,
+                    job.denominator_bound,
+                    poles,
+                )
+            }
+            Shape::CommonFactor => Fraction::enlarged(random, job, wrong_count),
+            Shape::Any | Shape::WholeField => {
+                Fraction::reduced(random, job, job.numerator_bound, job.denominator_bound, 0)
+            }
+        }
+    }
+
+    /// A fraction with these bounds whose denominator is zero at the first `poles` points.
+    fn reduced(
+        random: &mut Random,
+        job: &Job,
+        numerator_bound: usize,
+        denominator_bound: usize,
+        poles: usize,
+    ) -> Option<Fraction> {
+        let field = Field::new(job.prime());
+        let degree = drawn_degree(random, denominator_bound - poles);
+        let denominator = with_roots(random, job, degree, poles);
+        let numerators: Vec<Polynomial> = (0..job.outputs)
+            .map(|_| numerator(random, numerator_bound, job.prime()))
+            .collect();
+        let divisor = numerators
+            .iter()
+            .fold(denominator.clone(), |d, f| d.common_divisor(f, field));
+        let common_factor = Polynomial::one();
+        (divisor == common_factor).then_some(Fraction {
+            denominator,
+            numerators,
+            common_factor,
+        })
+    }
+
+    /// A fraction that still meets the bounds after multiplication by its common factor, which has
+    /// at most `wrong_count` roots planted among the points.
+    fn enlarged(random: &mut Random, job: &Job, wrong_count: usize) -> Option<Fraction> {
+        let degree = random.between(1, 3.min(job.numerator_bound).min(job.denominator_bound));
+        let df = job.numerator_bound - degree;
+        let dg = job.denominator_bound - degree;
+        let roots = random.between(0, degree.min(wrong_count));
+        let common_factor = with_roots(random, job, degree - roots, roots);
+        let fraction = Fraction::reduced(random, job, df, dg, 0)?;
+        Some(Fraction {
+            common_factor,
+            ..fraction
+        })
+    }
+}
+
+/// A monic polynomial of degree `degree` + `roots` that is zero at the first `roots` points.
+fn with_roots(random: &mut Random, job: &Job, degree: usize, roots: usize) -> Polynomial {
+    let field = Field::new(job.prime());
+    let mut coefficients: Vec<u32> = (0..degree).map(|_| random.residue(job.prime())).collect();
+    coefficients.push(1);
+    let linear = |point| Polynomial::new(vec![field.subtract(0, point), 1]);
+    job.rows[..roots]
+        .iter()
+        .fold(Polynomial::new(coefficients), |product, row| {
+            product.times(&linear(row.point), field)
+        })
+}
+
+/// Mostly the highest degree allowed.
+fn drawn_degree(random: &mut Random, bound: usize) -> usize {
+    if random.once_in(4) {
+        random.between(0, bound)
+    } else {
+        bound
+    }
+}
+
+/// A random numerator, zero at times.
+pub fn numerator(random: &mut Random, bound: usize, prime: u32) -> Polynomial {
+    if random.once_in(8) {
+        return Polynomial::zero();
+    }
+    let degree = drawn_degree(random, bound);
+    Polynomial::new((0..=degree).map(|_| random.residue(prime)).collect())
+}

@@ -1,0 +1,251 @@
+//! Jobs made from a known reduced answer, with a known number of wrong rows.
+
+use super::fraction::{numerator, Fraction};
+use super::random::Random;
+use crate::layout::{has_pole, wrong_rows, Job, Row, MOST_ROWS, PRIMES};
+use crate::second::polynomial::Polynomial;
+use crate::second::Field;
+
+/// How many rows are to be wrong.
+#[derive(Clone, Copy, Debug, PartialEq, Eq)]
+pub enum WrongRows {
+    /// E is 0, and so is their number.
+    None,
+    /// Fewer than E.
+    Fewer,
+    /// E, which is not 0.
+    Exact,
+    /// E + 1.
+    OneTooMany,
+}
+
+/// What a planted job is to be like.
+#[derive(Clone, Copy, Debug, PartialEq, Eq)]
+pub enum Shape {
+    Any,
+    /// g has roots among the points.
+    Poles,
+    /// The values come from f and g with a common factor.
+    CommonFactor,
+    /// Every f is zero.
+    AllZero,
+    /// Every residue modulo 7 is a point.
+    WholeField,
+    /// The bounds are far above the true degrees.
+    LooseBounds,
+}
+
+pub struct Planted {
+    pub job: Job,
+    pub denominator: Vec<u32>,
+    pub numerators: Vec<Vec<u32>>,
+    /// The rows that are wrong for the planted answer.
+    pub word: u32,
+}
+
+impl Planted {
+    pub fn has_pole(&self) -> bool {
+        has_pole(&self.job, &self.denominator)
+    }
+}
+
+/// A job of this shape with this number of wrong rows; unsuitable draws are thrown away.
+pub fn planted(random: &mut Random, shape: Shape, wrong: WrongRows) -> Planted {
+    loop {
+        let mut job = header(random, shape, wrong);
+        let wrong_count = match wrong {
+            WrongRows::None => 0,
+            WrongRows::Fewer if shape == Shape::Poles => random.between(1, job.error_bound - 1),
+            WrongRows::Fewer => random.below(job.error_bound),
+            WrongRows::Exact => job.error_bound,
+            WrongRows::OneTooMany => job.error_bound + 1,
+        };
+        let Some(fraction) = Fraction::draw(random, &job, shape, wrong_count) else {
+            continue;
+        };
+        fill_values(random, &mut job, &fraction);
+        random.shuffle(&mut job.rows);
+        let denominator = fraction.denominator.coefficients().to_vec();
+        let numerators: Vec<Vec<u32>> = fraction
+            .numerators
+            .iter()
+            .map(|f| f.coefficients().to_vec())
+            .collect();
+        let Some(word) = spoil(random, &mut job, &denominator, &numerators, wrong_count) else {
+            continue;
+        };
+        return Planted {
+            job,
+            denominator,
+            numerators,
+            word,
+        };
+    }
+}
+
+/// The least that a shape asks of a header.
+struct Least {
+    numerator_bound: usize,
+    denominator_bound: usize,
+    bounds_sum: usize,
+    errors: usize,
+}
+
+fn least(shape: Shape, wrong: WrongRows) -> Least {
+    let (numerator_bound, denominator_bound, bounds_sum) = match shape {
+        Shape::Poles => (0, 1, 1),
+        Shape::CommonFactor => (1, 1, 2),
+        Shape::LooseBounds => (0, 0, 8),
+        Shape::Any | Shape::AllZero | Shape::WholeField => (0, 0, 0),
+    };
+    let errors = match wrong {
+        WrongRows::None | WrongRows::OneTooMany => 0,
+        WrongRows::Fewer if shape == Shape::Poles => 2,
+        WrongRows::Fewer | WrongRows::Exact => 1,
+    };
+    Least {
+        numerator_bound,
+        denominator_bound,
+        bounds_sum,
+        errors,
+    }
+}
+
+/// Prime, bounds and points; the values are zeros for now.
+fn header(random: &mut Random, shape: Shape, wrong: WrongRows) -> Job {
+    let prime_code = match shape {
+        Shape::WholeField => 0,
+        Shape::LooseBounds => random.between(1, 3),
+        _ => random.below(4),
+    };
+    let prime = PRIMES[prime_code];
+    let least = least(shape, wrong);
+    let most_rows = MOST_ROWS.min(prime as usize);
+    let row_count = match shape {
+        Shape::WholeField => most_rows,
+        _ => random.between(least.bounds_sum + 2 * least.errors + 1, most_rows),
+    };
+    let outputs = random.between(1, 4);
+    let points = distinct_points(random, prime, row_count);
+    let values = vec![0; outputs];
+    let row = |point| Row {
+        point,
+        values: values.clone(),
+    };
+    let rows = points.into_iter().map(row).collect();
+    let mut job = Job {
+        prime_code,
+        outputs,
+        numerator_bound: 0,
+        denominator_bound: 0,
+        error_bound: 0,
+        rows,
+    };
+    draw_bounds(random, &mut job, &least, wrong);
+    job
+}
+
+/// Bounds that the rows suffice for, mostly the largest.
+fn draw_bounds(random: &mut Random, job: &mut Job, least: &Least, wrong: WrongRows) {
+    let room = job.rows.len() - 1;
+    job.error_bound = match wrong {
+        WrongRows::None => 0,
+        _ => random.between(least.errors, 15.min((room - least.bounds_sum) / 2)),
+    };
+    let room = room - 2 * job.error_bound;
+    let sum = match random.below(4) {
+        0 => random.between(least.bounds_sum, room),
+        _ => room,
+    };
+    job.denominator_bound = random.between(least.denominator_bound, sum - least.numerator_bound);
+    job.numerator_bound = sum - job.denominator_bound;
+}
+
+/// Different points in random order; the ends of the range are drawn often.
+pub fn distinct_points(random: &mut Random, prime: u32, count: usize) -> Vec<u32> {
+    let mut points: Vec<u32> = Vec::new();
+    while points.len() < count {
+        let point = match random.below(8) {
+            0 => random.below(count) as u32,
+            1 => prime - 1 - random.below(count) as u32,
+            _ => random.residue(prime),
+        };
+        if !points.contains(&point) {
+            points.push(point);
+        }
+    }
+    points
+}
+
+/// The quotient of the unreduced polynomials at every point. Where both are zero, and at the poles,
+/// there is none: zeros stand there, or anything, or the reduced value.
+fn fill_values(random: &mut Random, job: &mut Job, fraction: &Fraction) {
+    let field = Field::new(job.prime());
+    for row in &mut job.rows {
+        let below = fraction.denominator.value_at(row.point, field);
+        let lost = fraction.common_factor.value_at(row.point, field) == 0 && !random.once_in(3);
+        row.values = if below == 0 || lost {
+            let zeros = random.once_in(2);
+            let residue = |_| {
+                if zeros {
+                    0
+                } else {
+                    random.residue(field.prime())
+                }
+            };
+            (0..job.outputs).map(residue).collect()
+        } else {
+            let unit = field.reciprocal(below);
+            let value = |f: &Polynomial| field.multiply(f.value_at(row.point, field), unit);
+            fraction.numerators.iter().map(value).collect()
+        };
+    }
+}
+
+/// Makes right rows wrong until `wrong_count` rows are; returns the word of the wrong rows, or
+/// `None` where too many are wrong already.
+fn spoil(
+    random: &mut Random,
+    job: &mut Job,
+    denominator: &[u32],
+    numerators: &[Vec<u32>],
+    wrong_count: usize,
+) -> Option<u32> {
+    let prime = job.prime();
+    let other: Vec<Polynomial> = (0..job.outputs)
+        .map(|_| numerator(random, job.numerator_bound, prime))
+        .collect();
+    let style = random.below(3);
+    loop {
+        let word = wrong_rows(job, denominator, numerators);
+        let count = word.count_ones() as usize;
+        if count >= wrong_count {
+            return (count == wrong_count).then_some(word);
+        }
+        let right: Vec<usize> = (0..job.rows.len())
+            .filter(|row| word << row >> 31 == 0)
+            .collect();
+        let chosen = right[random.below(right.len())];
+        spoil_row(random, &mut job.rows[chosen], prime, style, &other);
+    }
+}
+
+/// Changes one value of a right row, or all, or takes the values of other polynomials. The point is
+/// no pole, so any change makes the row wrong.
+fn spoil_row(random: &mut Random, row: &mut Row, prime: u32, style: usize, other: &[Polynomial]) {
+    let field = Field::new(prime);
+    let before = row.values.clone();
+    match style {
+        0 => {}
+        1 => row
+            .values
+            .iter_mut()
+            .for_each(|value| *value = random.residue(prime)),
+        _ => row.values = other.iter().map(|f| f.value_at(row.point, field)).collect(),
+    }
+    if row.values == before {
+        let output = random.below(row.values.len());
+        let added = random.between(1, prime as usize - 1) as u32;
+        row.values[output] = field.add(row.values[output], added);
+    }
+}

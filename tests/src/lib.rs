@@ -1,0 +1,43 @@
+//! Checks of the recovery library from outside: solvers written separately, generated jobs, the
+//! paper's examples, and the boundary to the library itself.
+
+#![deny(unsafe_code)]
+
+pub mod definition;
+pub mod hex;
+pub mod jobs;
+pub mod layout;
+pub mod library;
+pub mod paper;
+pub mod plain;
+pub mod program;
+pub mod readable;
+pub mod second;
+
+use library::Report;
+
+/// One way to recover a job into an area.
+#[derive(Clone, Copy)]
+pub struct Implementation {
+    pub name: &'static str,
+    pub recover: fn(&[u8], &mut [u8]) -> Report,
+}
+
+/// Every implementation to be compared; the library only where its feature is on.
+pub fn implementations() -> Vec<Implementation> {
+    vec![
+        #[cfg(feature = "library")]
+        Implementation {
+            name: "library",
+            recover: library::recover,
+        },
+        Implementation {
+            name: "plain",
+            recover: plain::recover,
+        },
+        Implementation {
+            name: "second",
+            recover: second::recover,
+        },
+    ]
+}

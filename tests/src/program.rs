@@ -1,0 +1,68 @@
+//! Runs the printing program.
+
+use std::io::{ErrorKind, Write};
+use std::path::PathBuf;
+use std::process::{Child, Command, Output, Stdio};
+use std::thread::sleep;
+use std::time::{Duration, Instant};
+
+const PATIENCE: Duration = Duration::from_secs(10);
+
+/// Where the program stands once it is built.
+pub fn path() -> PathBuf {
+    PathBuf::from(concat!(
+        env!("CARGO_MANIFEST_DIR"),
+        "/../target/bin/recover"
+    ))
+}
+
+/// The program's output for an input that comes in pieces, with a pause between them.
+pub fn run(pieces: &[&[u8]]) -> Result<Output, String> {
+    let program = path();
+    if !program.is_file() {
+        let command = "build it in the repository's root with `rt check recover`";
+        return Err(format!(
+            "target/bin/recover is missing: {command}, or leave it out by `--no-default-features`"
+        ));
+    }
+    let mut child = Command::new(program)
+        .stdin(Stdio::piped())
+        .stdout(Stdio::piped())
+        .stderr(Stdio::piped())
+        .spawn()
+        .map_err(|error| format!("the program does not start: {error}"))?;
+    send(&mut child, pieces)?;
+    wait(child)
+}
+
+/// Writes the pieces and closes the input. A program that has read all it wants may close first.
+fn send(child: &mut Child, pieces: &[&[u8]]) -> Result<(), String> {
+    let mut input = child.stdin.take().ok_or("the program has no input")?;
+    for (index, piece) in pieces.iter().enumerate() {
+        if index > 0 {
+            sleep(Duration::from_millis(2));
+        }
+        match input.write_all(piece).and_then(|()| input.flush()) {
+            Err(error) if error.kind() == ErrorKind::BrokenPipe => return Ok(()),
+            result => result.map_err(|error| format!("writing the input failed: {error}"))?,
+        }
+    }
+    Ok(())
+}
+
+/// The output is short enough to stay in the pipe until the program ends.
+fn wait(mut child: Child) -> Result<Output, String> {
+    let start = Instant::now();
+    while child
+        .try_wait()
+        .map_err(|error| error.to_string())?
+        .is_none()
+    {
+        if start.elapsed() > PATIENCE {
+            child.kill().map_err(|error| error.to_string())?;
+            return Err(format!("the program did not end within {PATIENCE:?}"));
+        }
+        sleep(Duration::from_micros(200));
+    }
+    child.wait_with_output().map_err(|error| error.to_string())
+}

@@ -1,0 +1,91 @@
+//! The equations of source document 001, (14), with one value for each output in a row:
+//! Φi(x) = yi Ψ(x) for every row and output, deg Φi ≤ df + E, deg Ψ ≤ dg + E.
+
+use super::field::Field;
+use super::polynomial::Polynomial;
+use super::reader::Problem;
+
+type Matrix = Vec<Vec<u32>>;
+
+/// A nonzero solution as (Φ1 .. Φn, Ψ), or `None` where only zero solves the equations.
+pub fn kernel_vector(field: Field, problem: &Problem) -> Option<(Vec<Polynomial>, Polynomial)> {
+    let solution = nonzero_solution(field, matrix(field, problem))?;
+    let width = problem.numerator_bound + problem.error_bound + 1;
+    let (numerators, denominator) = solution.split_at(problem.outputs * width);
+    let numerators = numerators
+        .chunks(width)
+        .map(|part| Polynomial::new(part.to_vec()))
+        .collect();
+    Some((numerators, Polynomial::new(denominator.to_vec())))
+}
+
+/// One line for each row and output; the columns are the coefficients of Φ1 .. Φn and then of Ψ.
+fn matrix(field: Field, problem: &Problem) -> Matrix {
+    let width = problem.numerator_bound + problem.error_bound + 1;
+    let denominator_start = problem.outputs * width;
+    let columns = denominator_start + problem.denominator_bound + problem.error_bound + 1;
+    let mut lines = Vec::new();
+    for output in 0..problem.outputs {
+        for row in &problem.rows {
+            let mut line = vec![0; columns];
+            for power in 0..width {
+                line[output * width + power] = field.power(row.point, power as u32);
+            }
+            let negated = field.subtract(0, row.values[output]);
+            for power in 0..columns - denominator_start {
+                let product = field.multiply(negated, field.power(row.point, power as u32));
+                line[denominator_start + power] = product;
+            }
+            lines.push(line);
+        }
+    }
+    lines
+}
+
+/// Gaussian elimination up to the first column without a pivot: every column before it has one, so
+/// 1 in that column, 0 behind it and back substitution before it solve the equations.
+fn nonzero_solution(field: Field, mut lines: Matrix) -> Option<Vec<u32>> {
+    let columns = lines[0].len();
+    for column in 0..columns {
+        let pivot = (column..lines.len()).find(|&line| lines[line][column] != 0);
+        let Some(pivot) = pivot else {
+            return Some(back_substitution(field, &lines, column));
+        };
+        lines.swap(column, pivot);
+        eliminate_below(field, &mut lines, column);
+    }
+    None
+}
+
+/// Clears `column` below its pivot, which stands in the line of the same number, after making the
+/// pivot 1.
+fn eliminate_below(field: Field, lines: &mut Matrix, column: usize) {
+    let (upper, lower) = lines.split_at_mut(column + 1);
+    let pivot_line = &mut upper[column];
+    let unit = field.reciprocal(pivot_line[column]);
+    for entry in &mut pivot_line[column..] {
+        *entry = field.multiply(*entry, unit);
+    }
+    for line in lower {
+        let factor = line[column];
+        if factor == 0 {
+            continue;
+        }
+        for (entry, &above) in line[column..].iter_mut().zip(&pivot_line[column..]) {
+            *entry = field.subtract(*entry, field.multiply(factor, above));
+        }
+    }
+}
+
+fn back_substitution(field: Field, lines: &Matrix, free_column: usize) -> Vec<u32> {
+    let mut solution = vec![0; lines[0].len()];
+    solution[free_column] = 1;
+    for line in (0..free_column).rev() {
+        let mut sum = 0;
+        for column in line + 1..=free_column {
+            sum = field.add(sum, field.multiply(lines[line][column], solution[column]));
+        }
+        solution[line] = field.subtract(0, sum);
+    }
+    solution
+}

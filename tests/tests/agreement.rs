@@ -1,0 +1,79 @@
+//! Every implementation on the same generated jobs: the report and every byte of the area.
+//!
+//! `SEED` and `JOBS` in the environment take another run.
+
+use outside_checks::hex;
+use outside_checks::implementations;
+use outside_checks::jobs::{generate, GeneratedJob, Tally};
+use outside_checks::library::Report;
+use std::io::Write;
+use std::str::FromStr;
+
+const SEED: u64 = 20_140_601;
+const JOBS: u64 = 100_000;
+
+fn setting<T: FromStr>(name: &str, usual: T) -> T {
+    match std::env::var(name) {
+        Ok(text) => text
+            .parse()
+            .unwrap_or_else(|_| panic!("{name} must be a number: {text}")),
+        Err(_) => usual,
+    }
+}
+
+/// Every implementation's report, which must be the same, and so must the areas.
+fn agreed_report(job: &GeneratedJob) -> Report {
+    let mut agreed: Option<(&str, Report, Vec<u8>)> = None;
+    for implementation in implementations() {
+        let mut area = job.area.clone();
+        let report = (implementation.recover)(&job.bytes, &mut area);
+        let outcome = format!("{}: {report:?}\n{}", implementation.name, hex::text(&area));
+        if let Some(complaint) = job.complaint(report, &area) {
+            panic!("{complaint}\n{outcome}\n{}", job.describe());
+        }
+        let kept = report.written as usize;
+        assert!(
+            area[kept..] == job.area[kept..],
+            "altered behind\n{outcome}\n{}",
+            job.describe()
+        );
+        match &agreed {
+            None => agreed = Some((implementation.name, report, area)),
+            Some((name, first_report, first_area)) => assert!(
+                report == *first_report && area == *first_area,
+                "{outcome}\n{name}: {first_report:?}\n{}\n{}",
+                hex::text(first_area),
+                job.describe()
+            ),
+        }
+    }
+    agreed.expect("there is an implementation").1
+}
+
+#[test]
+fn all_implementations_agree_on_generated_jobs() {
+    let seed = setting("SEED", SEED);
+    let mut tally = Tally::default();
+    for index in 0..setting("JOBS", JOBS) {
+        let job = generate(seed, index);
+        let report = agreed_report(&job);
+        tally.count(&job, report);
+    }
+    let names: Vec<&str> = implementations().iter().map(|each| each.name).collect();
+    let (summary, enough) = tally.summary();
+    let text = format!("\nseed {seed}, compared: {}\n{summary}", names.join(", "));
+    // Written past the test's capture, so that every run shows its counts.
+    std::io::stderr()
+        .write_all(text.as_bytes())
+        .expect("standard error takes text");
+    assert!(enough, "too few jobs of a kind");
+}
+
+#[test]
+fn the_generator_repeats_itself() {
+    for index in 0..200 {
+        let (first, again) = (generate(SEED, index), generate(SEED, index));
+        assert_eq!(first.describe(), again.describe());
+        assert_ne!(first.describe(), generate(SEED + 1, index).describe());
+    }
+}

@@ -1,0 +1,174 @@
+//! The enlargement rule of paper 01 (point 5), on pairs of jobs, each handed to a call of its own.
+
+use outside_checks::hex;
+use outside_checks::jobs::enlargement::{generate, Pair};
+use outside_checks::jobs::Random;
+use outside_checks::layout::{is_right, packed_row, row_bit, Answer, Job, Row};
+use outside_checks::library::Report;
+use outside_checks::{implementations, Implementation};
+use std::io::Write;
+
+const SEED: u64 = 5;
+const PAIRS: u64 = 12_000;
+
+/// How often each side of the rule was met.
+#[derive(Default)]
+struct Counts {
+    pairs: usize,
+    same: usize,
+    same_with_all_errors: usize,
+    refused: usize,
+    other_answer: usize,
+    one_too_many: usize,
+    no_further_rows: usize,
+    fewer_errors_allowed: usize,
+    smaller_bound: usize,
+    further_wrong: usize,
+}
+
+/// What a call returns and what its area holds afterwards.
+struct Call {
+    report: Report,
+    area: Vec<u8>,
+}
+
+fn call(implementation: Implementation, job: &Job, random: &mut Random) -> Call {
+    let mut area = random.bytes(job.answer_length());
+    area.extend([0x5A; 4]);
+    let report = (implementation.recover)(&job.pack(), &mut area);
+    Call { report, area }
+}
+
+/// The rule's word for the larger job: a row of the smaller job keeps its mark, a further row is
+/// marked where it is wrong for the fraction. Also returns how many further rows are.
+fn word_by_the_rule(pair: &Pair, answer: &Answer) -> (u32, usize) {
+    let place_in_smaller = |row: &Row| {
+        let bytes = packed_row(row);
+        pair.smaller
+            .rows
+            .iter()
+            .position(|other| packed_row(other) == bytes)
+    };
+    let is_wrong = |row: &Row| {
+        let numerators = answer.numerators.iter().map(Vec::as_slice);
+        !is_right(&answer.denominator, numerators, row, pair.larger.prime())
+    };
+    let (mut word, mut further_wrong) = (0, 0);
+    for (place, row) in pair.larger.rows.iter().enumerate() {
+        let marked = match place_in_smaller(row) {
+            Some(earlier) => answer.word & row_bit(earlier) != 0,
+            None => {
+                further_wrong += usize::from(is_wrong(row));
+                is_wrong(row)
+            }
+        };
+        if marked {
+            word |= row_bit(place);
+        }
+    }
+    (word, further_wrong)
+}
+
+/// Whether the polynomials meet the larger job's bounds.
+fn meets_bounds(answer: &Answer, job: &Job) -> bool {
+    let (denominator, numerators) = answer.trimmed();
+    denominator.len() <= job.denominator_bound + 1
+        && numerators
+            .iter()
+            .all(|numerator| numerator.len() <= job.numerator_bound + 1)
+}
+
+fn try_pair(implementation: Implementation, pair: &Pair, random: &mut Random, counts: &mut Counts) {
+    let describe = || {
+        let name = implementation.name;
+        let (smaller, larger) = (pair.smaller.pack(), pair.larger.pack());
+        let (smaller, larger) = (hex::text(&smaller), hex::text(&larger));
+        format!("{name}, seed {SEED}\nsmaller {smaller}\nlarger {larger}")
+    };
+    let first = call(implementation, &pair.smaller, random);
+    if !first.report.is_answered() {
+        return;
+    }
+    let answer = Answer::unpack(&first.area, &pair.smaller);
+    if !meets_bounds(&answer, &pair.larger) {
+        return;
+    }
+    let second = call(implementation, &pair.larger, random);
+    let (word, further_wrong) = word_by_the_rule(pair, &answer);
+    let wrong = first.report.wrong as usize + further_wrong;
+    let again = Answer::unpack(&second.area, &pair.larger);
+    let same = second.report.is_answered() && again.trimmed() == answer.trimmed();
+    assert_eq!(same, wrong <= pair.larger.error_bound, "{}", describe());
+    if same {
+        assert_eq!(again.word, word, "{}", describe());
+        assert_eq!(second.report.wrong as usize, wrong, "{}", describe());
+    } else if !second.report.is_answered() {
+        assert_eq!(second.report, Report::refused(8, 0), "{}", describe());
+    }
+    let bounds = [pair.smaller.error_bound, pair.larger.error_bound];
+    counts.take(pair, same, second.report.is_answered(), wrong, bounds);
+    counts.further_wrong += usize::from(same && further_wrong > 0);
+}
+
+impl Counts {
+    fn take(&mut self, pair: &Pair, same: bool, answered: bool, wrong: usize, errors: [usize; 2]) {
+        let (smaller, larger) = (&pair.smaller, &pair.larger);
+        self.pairs += 1;
+        self.same += usize::from(same);
+        self.same_with_all_errors += usize::from(same && wrong == errors[1]);
+        self.refused += usize::from(!answered);
+        self.other_answer += usize::from(answered && !same);
+        self.one_too_many += usize::from(wrong == errors[1] + 1);
+        self.no_further_rows += usize::from(larger.rows.len() == smaller.rows.len());
+        self.fewer_errors_allowed += usize::from(errors[1] < errors[0]);
+        self.smaller_bound += usize::from(
+            larger.numerator_bound < smaller.numerator_bound
+                || larger.denominator_bound < smaller.denominator_bound,
+        );
+    }
+
+    fn lines(&self) -> [(&'static str, usize, usize); 10] {
+        [
+            ("pairs", self.pairs, 10_000),
+            ("k + w within E', same fraction", self.same, 4000),
+            ("k + w equal to E'", self.same_with_all_errors, 1000),
+            ("k + w equal to E' + 1", self.one_too_many, 500),
+            ("larger job refused", self.refused, 1500),
+            ("larger job answered otherwise", self.other_answer, 20),
+            ("no further rows", self.no_further_rows, 500),
+            ("E' below E", self.fewer_errors_allowed, 500),
+            ("df' below df or dg' below dg", self.smaller_bound, 500),
+            ("same fraction, wrong further rows", self.further_wrong, 500),
+        ]
+    }
+}
+
+#[test]
+fn the_larger_job_follows_the_rule() {
+    for implementation in implementations() {
+        let mut counts = Counts::default();
+        let mut random = Random::new(SEED, PAIRS);
+        for index in 0..PAIRS {
+            try_pair(
+                implementation,
+                &generate(SEED, index),
+                &mut random,
+                &mut counts,
+            );
+        }
+        let mut text = format!("\nenlargement rule, {}\n", implementation.name);
+        for (name, count, floor) in counts.lines() {
+            text += &format!("{name:<36}{count:>8}  floor {floor:>6}\n");
+        }
+        std::io::stderr()
+            .write_all(text.as_bytes())
+            .expect("standard error takes text");
+        assert!(
+            counts
+                .lines()
+                .iter()
+                .all(|(_, count, floor)| count >= floor),
+            "too few of a kind"
+        );
+    }
+}
