@@ -34,11 +34,10 @@ reading-storable s room = by-outcome (outcomeOf s room)
 
 -- the call that writes the text answers w and leaves the buffer as `after`
 module _
-  (s area left old after : List ℕ) (outcome : Outcome) (b : Bounds) (w : Written)
-  (known : b ≡ readingOf s (length area) .bounds) (room : 1280 ≤ length old)
-  (answer : w ≡ writtenOf b outcome left (length old)) (buffer : after ≡ bufferAfter b outcome left old)
-  (short : isStorable b ≡ true → length (textOf b outcome left) ≤ 1280) where
-
+    (s area left old after : List ℕ) (outcome : Outcome) (b : Bounds) (w : Written)
+    (known : b ≡ readingOf s (length area) .bounds) (room : 1280 ≤ length old)
+    (answer : w ≡ writtenOf b outcome left (length old)) (buffer : after ≡ bufferAfter b outcome left old)
+    (short : isStorable b ≡ true → length (textOf b outcome left) ≤ 1280) where
   good : isStorable b ≡ true
   good = ap isStorable known ∙ reading-storable s (length area)
 

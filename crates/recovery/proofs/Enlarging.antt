@@ -7,7 +7,6 @@ use Prim.Native.Nat.{ℕ, zero, suc, _+_, _/_, _%_, _^_, _-_, _≤_, _<_}
 use native.Mathlib.Decide.{decLt, ℕ-discrete}
 use native.Mathlib.Omega.{arith}
 use lib.ListN.{length}
-use Rattle.format.specs.Numbers.{wordFrom}
 use Rattle.method.proofs.Counting.{countWhere, countWhere-zero, countWhere-suc, countIf, countIf-yes, countIf-no}
 use Rattle.method.proofs.Tables.{FurtherRow, FurtherBad, dec-further-bad, old-or-further, bad-adds}
 use Rattle.format.specs.declared.Outcome.{Outcome}

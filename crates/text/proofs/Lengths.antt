@@ -61,8 +61,12 @@ module _ (s : List ℕ) (bytes : (k : ℕ) → getD s k 0 < 256) where
   output-lines b fits (suc i) few =
       let start = numeratorStart b i in
       let bound = numeratorBoundOf b i in
-      omega (arith, length-append (outputLines b s i) (outputLineFrom s i start bound), output-lines b fits i (omega arith),
-      output-line i start bound (omega arith) (omega (arith, fits .numerators-low i)))
+      omega (
+        arith,
+        length-append (outputLines b s i) (outputLineFrom s i start bound),
+        output-lines b fits i (omega arith),
+        output-line i start bound (omega arith) (omega (arith, fits .numerators-low i)),
+      )
 
   pub recovered-short : (b : Bounds) → Storable b → (wrong : ℕ) → wrong < 2 ^ 32 → length (recoveredText b wrong s) < 1280
   recovered-short b fits wrong low =
@@ -78,8 +82,13 @@ module _ (s : List ℕ) (bytes : (k : ℕ) → getD s k 0 < 256) where
       let end-three =
       joined (recoveredLabel ++ decimalOf wrong ++ lineFeed ++ wrongLabel ++ rows ++ lineFeed ++ denominatorLabel) line 124 193 three
       (coefficients-line (coefficientFrom s 4) (coefficient-low 4) (b .denominator) (omega (arith, fits .denominator-low))) in
-      omega (arith, length-append (recoveredLabel ++ decimalOf wrong ++ lineFeed ++ wrongLabel ++ rows ++ lineFeed ++ denominatorLabel ++ line) outputs, end-three,
-      output-lines b fits (b .outputs) (fits .few), fits .few)
+      omega (
+        arith,
+        length-append (recoveredLabel ++ decimalOf wrong ++ lineFeed ++ wrongLabel ++ rows ++ lineFeed ++ denominatorLabel ++ line) outputs,
+        end-three,
+        output-lines b fits (b .outputs) (fits .few),
+        fits .few,
+      )
 
 pub refused-short : (number row : ℕ) → number < 2 ^ 32 → row < 2 ^ 32 → length (refusedText number row) < 1280
 refused-short number row low-number low-row =

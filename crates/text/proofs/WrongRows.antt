@@ -79,13 +79,13 @@ word-without zero f wrong is low = absurd (omega arith)
 word-without (suc n) f wrong is low =
     ⊎-elim
     (λ same.
-        let before : wordOf n wrong ≡ wordOf n (without wrong f) = word-same n wrong (without wrong f) (λ r h. sym (without-others wrong f r (λ q. omega arith))) in
-        let place : 31 - f ≡ 31 - n = omega arith in
-        let wrong-n : wrong n ≡ true = ap wrong (sym same) ∙ is in
-        rw (place, without-it wrong f n (sym same), wrong-n, before) (omega arith))
+    let before : wordOf n wrong ≡ wordOf n (without wrong f) = word-same n wrong (without wrong f) (λ r h. sym (without-others wrong f r (λ q. omega arith))) in
+    let place : 31 - f ≡ 31 - n = omega arith in
+    let wrong-n : wrong n ≡ true = ap wrong (sym same) ∙ is in
+    rw (place, without-it wrong f n (sym same), wrong-n, before) (omega arith))
     (λ below.
-        let earlier = word-without n f wrong is below in
-        rw (without-others wrong f n (λ q. omega arith), earlier) (omega arith)) (eq-or-lt-of-le (le-of-suc-le-suc low))
+    let earlier = word-without n f wrong is below in
+    rw (without-others wrong f n (λ q. omega arith), earlier) (omega arith)) (eq-or-lt-of-le (le-of-suc-le-suc low))
 
 flag-back : (flag : Bool) → eqb (flagOf flag) 1 ≡ flag
 flag-back true = refl

@@ -46,7 +46,7 @@ returns c =
     let two = put-onto refusedLabel (decimalOf number) one (decimal .put-decimal .ensures (suc number) (lt-suc-self number)) in
     let three = put-onto (refusedLabel ++ decimalOf number) (itemOf row) two (item .put-item .ensures) in
     let four = put-onto (refusedLabel ++ decimalOf number ++ itemOf row) lineFeed three (c .put-byte .ensures) in
-        held-whole (c .put-byte .result .bytes) (whole c) (c .put-byte .result .count) (refusedText number row)
+    held-whole (c .put-byte .result .bytes) (whole c) (c .put-byte .result .count) (refusedText number row)
     (refused-short number row (s .fits .number .fits) (s .fits .row .fits)) four
 
 pub refused-spec : {M : Type 1} → statement M

@@ -104,9 +104,9 @@ put-decimal-returns-2 t c =
     let g = s .before .before .args in
     let large = s .before .if1 .left in
     λ k below.
-        let fewer : g .value / 10 < k - 1 = omega arith in
-        put-both (held (g .draft)) (digitsWithin (k - 1) (g .value / 10)) ((48 + g .value % 10) ∷ []) (s .put-decimal .ensures (k - 1) fewer) (c .put-byte2 .ensures)
-        ∙ ap (extended (g .draft)) (sym (digit-more k (g .value) below large))
+    let fewer : g .value / 10 < k - 1 = omega arith in
+    put-both (held (g .draft)) (digitsWithin (k - 1) (g .value / 10)) ((48 + g .value % 10) ∷ []) (s .put-decimal .ensures (k - 1) fewer) (c .put-byte2 .ensures)
+    ∙ ap (extended (g .draft)) (sym (digit-more k (g .value) below large))
 
 pub +put-decimal-spec : {M : Type 1} → statement M
 +put-decimal-spec = close μ-put-decimal λ t. put-decimal-lts.spec (
