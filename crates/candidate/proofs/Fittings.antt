@@ -17,7 +17,7 @@ use Rattle.poly.specs.Vectors.{onePoly, zeroPoly, coefficientsAt}
 use Rattle.poly.specs.Operations.{productAt, productOf}
 use Rattle.poly.proofs.Lists.{bounded-mono, bounded-zeros, bounded-tabulate}
 use Rattle.poly.proofs.Bounds.{zero-remainder}
-use Rattle.poly.proofs.Products.{terms, terms-after, sum-zeros, bounded-product}
+use Rattle.poly_product.proofs.Products.{terms, terms-after, sum-zeros, bounded-product}
 use Rattle.interpolation.proofs.PairLaws.{bounded-one}
 use Rattle.candidate.specs.declared.Candidate.{Candidate}
 use Rattle.candidate.specs.Candidates.{Sized, primeOf, Fitting, unsolvableCandidate, startCandidate}

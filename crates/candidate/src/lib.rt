@@ -88,7 +88,7 @@ fn raised_at(b: Bounds, c: Candidate, j: usize, h: Poly, lh: usize) -> Candidate
         }
     }
     let mut r = c;
-    let product = poly::product(prime, f, l, h, lh);
+    let product = poly_product::product(prime, f, l, h, lh);
     r.f[j] = product;
     r
 }
@@ -126,7 +126,7 @@ fn extended(b: Bounds, c: Candidate, i: usize, a: Poly, h: Poly) -> Candidate
     }
     let mut r = raised(b, c, i, h, lh);
     if r.solvable {
-        let product = poly::product(prime, g, lg, h, lh);
+        let product = poly_product::product(prime, g, lg, h, lh);
         r.f[i] = a;
         r.g = product;
     }

@@ -53,8 +53,8 @@ fn advanced(q: Prime, n: usize, x: u32, s: Pair) -> Pair
     let b = s.b;
     let e = s.e;
     Pair {
-        a: poly::times_linear(q, n, a, x),
-        b: poly::times_linear(q, n, b, x),
+        a: poly_combination::times_linear(q, n, a, x),
+        b: poly_combination::times_linear(q, n, b, x),
         e: e + 1,
     }
 }
@@ -70,8 +70,8 @@ fn combined(q: Prime, n: usize, d: u32, s: Pair, c: u32, t: Pair) -> Pair
     let tb = t.b;
     let e = s.e;
     Pair {
-        a: poly::combination(q, n, d, sa, c, ta),
-        b: poly::combination(q, n, d, sb, c, tb),
+        a: poly_combination::combination(q, n, d, sa, c, ta),
+        b: poly_combination::combination(q, n, d, sb, c, tb),
         e: e,
     }
 }

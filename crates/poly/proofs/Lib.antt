@@ -2,4 +2,3 @@ pub mod Lists
 pub mod Bounds
 pub mod Values
 pub mod Lengths
-pub mod Products

@@ -9,7 +9,7 @@ use Rattle.field.proofs.Primality.{IsPrime}
 use Rattle.field.proofs.PrimeField.{residue, addR, residue-add, residue-mul, residueRing}
 use Rattle.poly.specs.Coefficients.{at, Bounded}
 use Rattle.poly.specs.Operations.{sumBelow, productAt, productOf}
-use Rattle.poly.proofs.Products.{sum-first, sum-cong, product-reduced-past}
+use Rattle.poly_product.proofs.Products.{sum-first, sum-cong, product-reduced-past}
 use Rattle.poly_meaning.proofs.Series.{series, residue-mod, tabulate-means}
 
 module _ (p : ℕ) (P : IsPrime p) where

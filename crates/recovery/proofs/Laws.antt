@@ -16,7 +16,7 @@ use Rattle.format.specs.Bounds.{numeratorBoundOf, answerLengthOf}
 use Rattle.format.specs.declared.Outcome.the-variants.{Recovered}
 use Rattle.poly.specs.Coefficients.{at}
 use Rattle.poly.specs.Operations.{valueOf, sumBelow, productAt}
-use Rattle.poly.proofs.Products.{sum-zeros}
+use Rattle.poly_product.proofs.Products.{sum-zeros}
 use Rattle.header.specs.Header.{boundsOf}
 use Rattle.rows.specs.Rows.{pointOf, pointsOf, valuesOf}
 use Rattle.rows.proofs.Entries.{points-at}

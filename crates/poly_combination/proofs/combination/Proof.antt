@@ -5,11 +5,11 @@ use native.Mathlib.Omega.{arith}
 use borrow.Author.Needs.{needs}
 use Rattle.field.specs.Primes.{modulusOf}
 use Rattle.field.proofs.Moduli.{modulus-positive}
 use Rattle.poly.specs.Operations.{combinationAt, combinationOf}
 use Rattle.poly.proofs.Lists.{Filled, filled-none, filled-more, filled-all}
 use Rattle.poly.proofs.Bounds.{combination-past, bounded-combination}
-use Rattle.poly.proofs.combination.Statement.{statement}
-use Rattle.poly.proofs.combination.Tie as tie
+use Rattle.poly_combination.proofs.combination.Statement.{statement}
+use Rattle.poly_combination.proofs.combination.Tie as tie
 
 abbrev Inv-loop : tie.InvT-loop
 Inv-loop q n d0 d1 a b m r₀ k₀ r k = (k ≤ n) × Filled (combinationAt (modulusOf q) d0 (a .c) d1 (b .c)) k (r .c)

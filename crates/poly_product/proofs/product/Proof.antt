@@ -4,11 +4,11 @@ use native.Mathlib.Omega.{arith}
 use borrow.Author.Needs.{needs}
 use Rattle.field.specs.Primes.{modulusOf}
 use Rattle.field.proofs.Moduli.{modulus-positive}
 use Rattle.poly.specs.Operations.{productAt, productOf}
 use Rattle.poly.proofs.Lists.{Filled, filled-none, filled-more, filled-all}
-use Rattle.poly.proofs.Products.{product-reduced-past, bounded-product}
-use Rattle.poly.proofs.product.Statement.{statement}
-use Rattle.poly.proofs.product.Tie as tie
+use Rattle.poly_product.proofs.Products.{product-reduced-past, bounded-product}
+use Rattle.poly_product.proofs.product.Statement.{statement}
+use Rattle.poly_product.proofs.product.Tie as tie
 
 abbrev Inv-loop : tie.InvT-loop
 Inv-loop q a la b lb r₀ k₀ r k = (k ≤ la + lb - 1) × Filled (λ j. productAt (a .c) (b .c) j % modulusOf q) k (r .c)

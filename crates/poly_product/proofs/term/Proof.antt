@@ -1,8 +1,8 @@
 -- The product of two numbers of 32 bits fits.
 use Rattle.field.proofs.Remainders.{product-fits}
 use borrow.Author.Needs.{needs}
-use Rattle.poly.proofs.term.Statement.{statement}
-use Rattle.poly.proofs.term.Tie as tie
+use Rattle.poly_product.proofs.term.Statement.{statement}
+use Rattle.poly_product.proofs.term.Tie as tie
 
 mul-result : tie.Need-mul-result
 mul-result c = record { fits = product-fits (c .fits .x .fits) (c .fits .y .fits) }

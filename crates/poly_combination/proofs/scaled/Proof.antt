@@ -5,11 +5,11 @@ use native.Mathlib.Omega.{arith}
 use borrow.Author.Needs.{needs}
 use Rattle.field.specs.Primes.{modulusOf}
 use Rattle.field.proofs.Moduli.{modulus-positive}
 use Rattle.poly.specs.Operations.{scaledAt, scaledOf}
 use Rattle.poly.proofs.Lists.{Filled, filled-none, filled-more, filled-all}
 use Rattle.poly.proofs.Bounds.{scaled-past, bounded-scaled}
-use Rattle.poly.proofs.scaled.Statement.{statement}
-use Rattle.poly.proofs.scaled.Tie as tie
+use Rattle.poly_combination.proofs.scaled.Statement.{statement}
+use Rattle.poly_combination.proofs.scaled.Tie as tie
 
 abbrev Inv-loop : tie.InvT-loop
 Inv-loop q n c a r₀ k₀ r k = (k ≤ n) × Filled (scaledAt (modulusOf q) c (a .c)) k (r .c)

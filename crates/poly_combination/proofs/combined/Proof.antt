@@ -1,10 +1,10 @@
 -- Both products fit, since all four factors are at most the modulus.
 use native.Mathlib.Omega.{arith}
 use native.Mathlib.Nat.{le-of-lt}
 use Rattle.poly.proofs.Bounds.{small-product}
 use borrow.Author.Needs.{needs}
-use Rattle.poly.proofs.combined.Statement.{statement}
-use Rattle.poly.proofs.combined.Tie as tie
+use Rattle.poly_combination.proofs.combined.Statement.{statement}
+use Rattle.poly_combination.proofs.combined.Tie as tie
 
 mul-reduce : tie.Need-mul-reduce
 mul-reduce c = omega (arith, small-product (c .args .q) (le-of-lt (c .pre .0)) (le-of-lt (c .pre .1)))

@@ -5,11 +5,11 @@ use native.Mathlib.Nat.{le-of-lt}
 use native.Mathlib.Omega.{arith}
 use borrow.Author.Needs.{needs}
 use Rattle.field.specs.Primes.{modulusOf}
 use Rattle.poly.specs.Operations.{sumBelow}
 use Rattle.poly.proofs.Bounds.{small-product}
-use Rattle.poly.proofs.Products.{terms, sum-more, product-start, product-end}
-use Rattle.poly.proofs.product_coefficient.Statement.{statement}
-use Rattle.poly.proofs.product_coefficient.Tie as tie
+use Rattle.poly_product.proofs.Products.{terms, sum-more, product-start, product-end}
+use Rattle.poly_product.proofs.product_coefficient.Statement.{statement}
+use Rattle.poly_product.proofs.product_coefficient.Tie as tie
 
 abbrev Inv-loop : tie.InvT-loop
 Inv-loop q la lb k a b end acc₀ i₀ acc i = (i ≤ k + 1) × (acc ≡ sumBelow i (terms (a .c) (b .c) k)) × (acc ≤ i * 4293001441)

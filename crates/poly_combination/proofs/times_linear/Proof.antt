@@ -8,12 +8,12 @@ use Rattle.field.proofs.Moduli.{modulus-positive, modulus-prime}
 use mathlib.Core.List.{_∷_}
 use native.Mathlib.Nat.{one-mul}
 use native.Mathlib.Numerals.{add-one}
 use Rattle.poly.specs.Coefficients.{at}
 use Rattle.poly.specs.Operations.{timesLinearAt, timesLinearOf}
 use Rattle.poly.proofs.Lists.{Filled, filled-none, filled-more, filled-all}
 use Rattle.poly.proofs.Bounds.{times-linear-past, bounded-times-linear}
-use Rattle.poly.proofs.times_linear.Statement.{statement}
-use Rattle.poly.proofs.times_linear.Tie as tie
+use Rattle.poly_combination.proofs.times_linear.Statement.{statement}
+use Rattle.poly_combination.proofs.times_linear.Tie as tie
 
 abbrev Inv-loop : tie.InvT-loop
 Inv-loop q n x a m r₀ lower₀ k₀ k-end r lower k = (k ≤ n + 1) × Filled (timesLinearAt (modulusOf q) x (a .c)) k (r .c) × (lower ≡ at (0 ∷ a .c) k) × (lower < modulusOf q)
