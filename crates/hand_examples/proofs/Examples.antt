@@ -48,7 +48,7 @@ use Rattle.candidate.specs.Candidates.{
   candidateAfter,
 }
 use Rattle.header.specs.Header.{headerOf, boundsOf, spareBitOf}
-use Rattle.rows.specs.Search.{firstBelow}
+use Rattle.row_search.specs.Search.{firstBelow}
 use Rattle.rows.specs.Rows.{numberAt, pointsOf, valuesOf}
 use Rattle.job.specs.Refusals.{outcomeOfRows, outcomeOf}
 use Rattle.judge.specs.Rows.{wrongRow}

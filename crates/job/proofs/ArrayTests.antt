@@ -8,12 +8,12 @@ use lib.Dec.{leb, eqb}
 use lib.ListN.{getD}
 use Rattle.field.specs.Primes.{modulusOf}
 use Rattle.format.specs.declared.Bounds.{Bounds}
-use Rattle.rows.specs.declared.search.Found.{Found}
+use Rattle.row_search.specs.declared.Found.{Found}
 use Rattle.header.specs.Header.{boundsOf}
 use Rattle.rows.specs.Rows.{pointsOf, valuesOf}
 use Rattle.job.specs.Refusals.{outOfRange, repeatedPoint}
-use Rattle.rows.specs.Search.{firstBelow, anyBelow, isFound}
-use Rattle.rows.proofs.FirstBelow.{first-cong}
+use Rattle.row_search.specs.Search.{firstBelow, anyBelow, isFound}
+use Rattle.row_search.proofs.FirstBelow.{first-cong}
 use Rattle.rows.proofs.Entries.{points-at, values-at}
 
 module _ (s : List ℕ) where

@@ -5,9 +5,9 @@ use mathlib.Core.Path.{_≡_, refl}
 use Prim.Native.Nat.{ℕ}
 use Rattle.format.specs.declared.Reason.the-variants.{TooShort, SpareBit, ByteCount, TooFewRows, OutOfRange, RepeatedPoint, AreaTooShort}
 use Rattle.format.specs.declared.Outcome.the-variants.{Accepted, Refused}
-use Rattle.rows.specs.declared.search.Found.the-variants.{At, Nothing}
+use Rattle.row_search.specs.declared.Found.the-variants.{At, Nothing}
 use Rattle.header.specs.Header.{boundsOf}
-use Rattle.rows.specs.Search.{firstBelow}
+use Rattle.row_search.specs.Search.{firstBelow}
 use Rattle.job.specs.Refusals.{
   tooShort,
   spareBitIsOne,

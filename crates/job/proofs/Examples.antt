@@ -6,7 +6,7 @@ use Rattle.format.specs.declared.Reason.the-variants.{TooShort, SpareBit, ByteC
 use Rattle.format.specs.declared.Outcome.{Outcome}
 use Rattle.format.specs.declared.Outcome.the-variants.{Accepted, Refused}
 use Rattle.header.specs.Header.{headerOf, boundsOf, spareBitOf}
-use Rattle.rows.specs.Search.{firstBelow}
+use Rattle.row_search.specs.Search.{firstBelow}
 use Rattle.rows.specs.Rows.{numberAt}
 use Rattle.job.specs.Refusals.{outcomeOfRows, outcomeOf}
 

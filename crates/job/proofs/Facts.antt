@@ -17,12 +17,12 @@ use Rattle.format.specs.declared.Outcome.{Outcome}
 use Rattle.format.specs.declared.Outcome.the-variants.{Accepted, Refused}
 use Rattle.header.specs.Header.{headerOf, boundsOf, spareBitOf, jobLengthOf, rowsNeededOf, Narrow}
 use Rattle.header.proofs.Fields.{narrow}
-use Rattle.rows.specs.declared.search.Found.{Found}
-use Rattle.rows.specs.declared.search.Found.the-variants.{At, Nothing}
-use Rattle.rows.specs.Search.{firstBelow, ifHolds, isFound}
+use Rattle.row_search.specs.declared.Found.{Found}
+use Rattle.row_search.specs.declared.Found.the-variants.{At, Nothing}
+use Rattle.row_search.specs.Search.{firstBelow, ifHolds, isFound}
 use Rattle.rows.specs.Rows.{pointOf, valueOf}
 use Rattle.rows.proofs.Order.{lt-or-ge}
-use Rattle.rows.proofs.FirstBelow.{at-not-nothing, none-passes, any-passes, none-below}
+use Rattle.row_search.proofs.FirstBelow.{at-not-nothing, none-passes, any-passes, none-below}
 use Rattle.job.proofs.Deciding.{past-4, accepted}
 use Rattle.job.specs.Refusals.{
   tooShort,

@@ -15,9 +15,9 @@ use Rattle.format.specs.declared.Outcome.{Outcome}
 use Rattle.format.specs.declared.Outcome.the-variants.{Accepted, Recovered, Refused}
 use Rattle.header.specs.Header.{boundsOf, spareBitOf, jobLengthOf, rowsNeededOf}
 use Rattle.header.proofs.Fields.{narrow, rows-bytes}
-use Rattle.rows.specs.declared.search.Found.{Found}
-use Rattle.rows.specs.declared.search.Found.the-variants.{At, Nothing}
-use Rattle.rows.specs.Search.{firstBelow}
+use Rattle.row_search.specs.declared.Found.{Found}
+use Rattle.row_search.specs.declared.Found.the-variants.{At, Nothing}
+use Rattle.row_search.specs.Search.{firstBelow}
 use Rattle.rows.specs.Rows.{pointOf}
 use Rattle.job.specs.Refusals.{tooShort, spareBitIsOne, byteCountDiffers, tooFewRows, outOfRange, repeatedPoint, outcomeOfRows, outcomeOf, WellFormed}
 use Rattle.job.specs.Answer.{readingWith, readingOf}

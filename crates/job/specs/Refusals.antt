@@ -11,9 +11,9 @@ use Rattle.format.specs.declared.Reason.{Reason}
 use Rattle.format.specs.declared.Reason.the-variants.{TooShort, SpareBit, ByteCount, TooFewRows, OutOfRange, RepeatedPoint, AreaTooShort}
 use Rattle.format.specs.declared.Outcome.{Outcome}
 use Rattle.format.specs.declared.Outcome.the-variants.{Accepted, Refused}
-use Rattle.rows.specs.declared.search.Found.{Found}
-use Rattle.rows.specs.declared.search.Found.the-variants.{At, Nothing}
-use Rattle.rows.specs.Search.{ifHolds, firstBelow, anyBelow}
+use Rattle.row_search.specs.declared.Found.{Found}
+use Rattle.row_search.specs.declared.Found.the-variants.{At, Nothing}
+use Rattle.row_search.specs.Search.{ifHolds, firstBelow, anyBelow}
 use Rattle.header.specs.Header.{boundsOf, spareBitOf, jobLengthOf, rowsNeededOf}
 use Rattle.rows.specs.Rows.{pointOf, valueOf}
 

@@ -11,10 +11,10 @@ use format::Reason;
 use header::job_length;
 use header::read_header;
 use header::rows_needed;
+use row_search::Found;
+use row_search::first_out_of_range;
+use row_search::first_repeated;
 use rows::read_rows;
-use rows::search::Found;
-use rows::search::first_out_of_range;
-use rows::search::first_repeated;
 
 // The outcome, and where it is Accepted the header's fields and the rows: the value of output i in row r stands at 4 r + i.
 pub struct Reading {

@@ -14,8 +14,8 @@ use Rattle.format.specs.Bounds.{numeratorBoundOf}
 use Rattle.field.specs.Primes.{modulusOf}
 use Rattle.poly.specs.Coefficients.{at, Bounded}
 use Rattle.header.specs.Header.{boundsOf}
-use Rattle.rows.specs.Search.{anyBelow, isFound}
-use Rattle.rows.proofs.FirstBelow.{any-passes, none-below}
+use Rattle.row_search.specs.Search.{anyBelow, isFound}
+use Rattle.row_search.proofs.FirstBelow.{any-passes, none-below}
 use Rattle.job.proofs.Facts.{WellFormedFacts, well-formed-facts}
 use Rattle.answer.specs.Word.{flagOf, countBelow, bitAt}
 use Rattle.answer.proofs.Words.{bit-exactly}

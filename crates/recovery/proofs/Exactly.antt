@@ -15,9 +15,9 @@ use Rattle.format.specs.declared.Reason.the-variants.{TooShort, SpareBit, ByteC
 use Rattle.format.specs.Bounds.{numeratorBoundOf, answerLengthOf}
 use Rattle.poly.specs.Coefficients.{at, Bounded}
 use Rattle.header.specs.Header.{boundsOf}
-use Rattle.rows.specs.declared.search.Found.{Found}
-use Rattle.rows.specs.declared.search.Found.the-variants.{At, Nothing}
-use Rattle.rows.specs.Search.{ifHolds, firstBelow}
+use Rattle.row_search.specs.declared.Found.{Found}
+use Rattle.row_search.specs.declared.Found.the-variants.{At, Nothing}
+use Rattle.row_search.specs.Search.{ifHolds, firstBelow}
 use Rattle.job.specs.Refusals.{
   tooShort,
   spareBitIsOne,

@@ -12,7 +12,7 @@ use Rattle.format.specs.declared.Outcome.{Outcome}
 use Rattle.format.specs.declared.Outcome.the-variants.{Recovered}
 use Rattle.format.specs.Bounds.{numeratorBoundOf}
 use Rattle.poly.specs.Coefficients.{at}
-use Rattle.rows.specs.Search.{anyBelow}
+use Rattle.row_search.specs.Search.{anyBelow}
 use Rattle.header.specs.Header.{boundsOf}
 use Rattle.job.specs.Refusals.{WellFormed}
 use Rattle.answer.specs.Word.{bitAt, countBelow}

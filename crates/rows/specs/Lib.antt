@@ -1,3 +1,2 @@
-pub mod Search
 pub mod Rows
 pub mod Steps

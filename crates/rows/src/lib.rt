@@ -1,6 +1,4 @@
 // The rows of a job: a point and the values of the outputs, 16 bits a number.
-pub mod search;
-
 ghost use Prim.Native.Nat.{_+_, _*_, _<_, _≤_};
 ghost use mathlib.Core.Path.{_≡_};
 ghost use lib.ListN.{length, set};

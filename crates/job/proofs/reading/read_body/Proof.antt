@@ -9,8 +9,8 @@ use Rattle.format.specs.declared.Bounds.{Bounds}
 use Rattle.format.specs.declared.Outcome.{Outcome}
 use Rattle.format.specs.declared.Outcome.the-variants.{Accepted}
 use Rattle.header.specs.Header.{boundsOf}
-use Rattle.rows.specs.declared.search.Found.the-variants.{Nothing}
-use Rattle.rows.specs.Search.{firstBelow}
+use Rattle.row_search.specs.declared.Found.the-variants.{Nothing}
+use Rattle.row_search.specs.Search.{firstBelow}
 use Rattle.job.specs.declared.reading.Reading.{Reading}
 use Rattle.job.specs.Refusals.{outOfRange, repeatedPoint, outcomeOfRows}
 use Rattle.job.specs.Answer.{readingWith}

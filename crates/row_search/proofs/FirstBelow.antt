@@ -6,9 +6,9 @@ use Prim.Native.Nat.{ℕ, zero, suc, _+_, _<_}
 use native.Mathlib.Nat.{not-suc-le-zero, le-of-suc-le-suc, eq-or-lt-of-le}
 use native.Mathlib.Numerals.{add-one}
 use native.Mathlib.Omega.{arith}
-use Rattle.rows.specs.declared.search.Found.{Found}
-use Rattle.rows.specs.declared.search.Found.the-variants.{At, Nothing}
-use Rattle.rows.specs.Search.{firstBelow, anyBelow, orElse, ifHolds, isFound}
+use Rattle.row_search.specs.declared.Found.{Found}
+use Rattle.row_search.specs.declared.Found.the-variants.{At, Nothing}
+use Rattle.row_search.specs.Search.{firstBelow, anyBelow, orElse, ifHolds, isFound}
 
 pub at-not-nothing : {i : ℕ} → At i ≡ Nothing → ⊥
 at-not-nothing {i} e = let z : _≡_ {A = ℕ} 0 1 = cc in omega arith

@@ -5,11 +5,11 @@ use borrow.Author.Tests.{eq-eqb, ne-eqb}
 use native.Mathlib.Omega.{arith}
 use lib.Dec.{eqb}
 use lib.ListN.{getD}
-use Rattle.rows.specs.declared.search.Found.the-variants.{Nothing}
-use Rattle.rows.specs.Search.{firstBelow}
-use Rattle.rows.proofs.FirstBelow.{none-more, any-at, any-none}
-use Rattle.rows.proofs.search.stands_earlier.Statement.{statement}
-use Rattle.rows.proofs.search.stands_earlier.Tie as tie
+use Rattle.row_search.specs.declared.Found.the-variants.{Nothing}
+use Rattle.row_search.specs.Search.{firstBelow}
+use Rattle.row_search.proofs.FirstBelow.{none-more, any-at, any-none}
+use Rattle.row_search.proofs.stands_earlier.Statement.{statement}
+use Rattle.row_search.proofs.stands_earlier.Tie as tie
 
 abbrev Inv-loop : tie.InvT-loop
 Inv-loop r points point q₀ q = (q ≤ r) × (firstBelow q (λ k. eqb (getD points k 0) (getD points r 0)) ≡ Nothing)

@@ -4,7 +4,7 @@ ghost use mathlib.Core.Bool.{_||_};
 ghost use mathlib.Core.Path.{_≡_};
 ghost use lib.Dec.{eqb, leb};
 ghost use lib.ListN.{getD};
-ghost use Rattle.rows.specs.Search.{firstBelow, anyBelow};
+ghost use Rattle.row_search.specs.Search.{firstBelow, anyBelow};
 
 // What a search finds: the first row that it looks for, if there is one.
 pub enum Found {

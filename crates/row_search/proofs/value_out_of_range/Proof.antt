@@ -5,11 +5,11 @@ use borrow.Author.Tests.{le-leb, lt-leb}
 use native.Mathlib.Omega.{arith}
 use lib.Dec.{leb}
 use lib.ListN.{getD}
-use Rattle.rows.specs.declared.search.Found.the-variants.{Nothing}
-use Rattle.rows.specs.Search.{firstBelow}
-use Rattle.rows.proofs.FirstBelow.{none-more, any-at, any-none}
-use Rattle.rows.proofs.search.value_out_of_range.Statement.{statement}
-use Rattle.rows.proofs.search.value_out_of_range.Tie as tie
+use Rattle.row_search.specs.declared.Found.the-variants.{Nothing}
+use Rattle.row_search.specs.Search.{firstBelow}
+use Rattle.row_search.proofs.FirstBelow.{none-more, any-at, any-none}
+use Rattle.row_search.proofs.value_out_of_range.Statement.{statement}
+use Rattle.row_search.proofs.value_out_of_range.Tie as tie
 
 abbrev Inv-loop : tie.InvT-loop
 Inv-loop from outputs p values i₀ i = (i ≤ outputs) × (firstBelow i (λ k. leb p (getD values (from + k) 0)) ≡ Nothing)

@@ -6,11 +6,11 @@ use borrow.Author.Tests.{le-leb, lt-leb}
 use native.Mathlib.Omega.{arith}
 use lib.Dec.{leb}
 use lib.ListN.{getD}
-use Rattle.rows.specs.declared.search.Found.the-variants.{Nothing}
-use Rattle.rows.specs.Search.{firstBelow, anyBelow}
-use Rattle.rows.proofs.FirstBelow.{none-more, first-at, first-none}
-use Rattle.rows.proofs.search.first_out_of_range.Statement.{statement}
-use Rattle.rows.proofs.search.first_out_of_range.Tie as tie
+use Rattle.row_search.specs.declared.Found.the-variants.{Nothing}
+use Rattle.row_search.specs.Search.{firstBelow, anyBelow}
+use Rattle.row_search.proofs.FirstBelow.{none-more, first-at, first-none}
+use Rattle.row_search.proofs.first_out_of_range.Statement.{statement}
+use Rattle.row_search.proofs.first_out_of_range.Tie as tie
 
 abbrev Inv-loop : tie.InvT-loop
 Inv-loop values rows outputs p points r₀ r =

@@ -4,11 +4,11 @@ use borrow.Author.Needs.{needs}
 use native.Mathlib.Omega.{arith}
 use lib.Dec.{eqb}
 use lib.ListN.{getD}
-use Rattle.rows.specs.declared.search.Found.the-variants.{Nothing}
-use Rattle.rows.specs.Search.{firstBelow, anyBelow}
-use Rattle.rows.proofs.FirstBelow.{none-more, first-at, first-none}
-use Rattle.rows.proofs.search.first_repeated.Statement.{statement}
-use Rattle.rows.proofs.search.first_repeated.Tie as tie
+use Rattle.row_search.specs.declared.Found.the-variants.{Nothing}
+use Rattle.row_search.specs.Search.{firstBelow, anyBelow}
+use Rattle.row_search.proofs.FirstBelow.{none-more, first-at, first-none}
+use Rattle.row_search.proofs.first_repeated.Statement.{statement}
+use Rattle.row_search.proofs.first_repeated.Tie as tie
 
 abbrev Inv-loop : tie.InvT-loop
 Inv-loop points rows r₀ r =

@@ -1,8 +1,8 @@
 -- Searches among the numbers below a bound.
 use Prim.Native.Nat.{ℕ, zero, suc}
 use mathlib.Core.Bool.{Bool, true, false}
-use Rattle.rows.specs.declared.search.Found.{Found}
-use Rattle.rows.specs.declared.search.Found.the-variants.{At, Nothing}
+use Rattle.row_search.specs.declared.Found.{Found}
+use Rattle.row_search.specs.declared.Found.the-variants.{At, Nothing}
 
 -- i, if the test holds there
 abbrev pub ifHolds : Bool → ℕ → Found
