@@ -47,7 +47,8 @@ use Rattle.candidate.specs.Candidates.{
   nextOf,
   candidateAfter,
 }
-use Rattle.header.specs.Header.{headerOf, boundsOf, spareBitOf}
+use Rattle.cursor.specs.Bits.{headerOf}
+use Rattle.header.specs.Header.{boundsOf, spareBitOf}
 use Rattle.row_search.specs.Search.{firstBelow}
 use Rattle.rows.specs.Rows.{numberAt, pointsOf, valuesOf}
 use Rattle.job.specs.Refusals.{outcomeOfRows, outcomeOf}

@@ -1,17 +1,9 @@
 -- Paper 01, "The job sheet": the header's 24 bits, most significant bit first: "prime code 2, n - 1 in 2, L in 5, df in 5, dg in 5, E in 4, one spare bit".
-use Prim.Native.Nat.{ℕ, _+_, _-_, _*_, _/_, _%_, _^_, _≤_}
+use Prim.Native.Nat.{ℕ, _+_, _*_, _/_, _%_, _^_, _≤_}
 use mathlib.Core.List.{List}
-use lib.ListN.{getD}
 use Rattle.field.specs.Primes.{primeOfCode}
 use Rattle.format.specs.declared.Bounds.{Bounds}
-
--- the 24 bits as one number
-unfoldable pub headerOf : List ℕ → ℕ
-headerOf s = getD s 0 0 * 65536 + getD s 1 0 * 256 + getD s 2 0
-
--- the number that so many bits from place `at` on make, places counted from the top
-abbrev pub fieldOf : List ℕ → ℕ → ℕ → ℕ
-fieldOf s at bits = headerOf s / 2 ^ (24 - (at + bits)) % 2 ^ bits
+use Rattle.cursor.specs.Bits.{headerOf}
 
 -- the fields above the spare bit: bits 22 and 23 are the prime code, 20 and 21 n - 1, 15 to 19 L, 10 to 14 df, 5 to 9 dg, 1 to 4 E
 unfoldable pub boundsOf : List ℕ → Bounds

@@ -1,7 +1,4 @@
 // A job's header: its fields, and the lengths that they fix.
-mod cursor;
-
-pub use cursor::wide;
 ghost use Prim.Native.Nat.{_≤_};
 ghost use mathlib.Core.Path.{_≡_};
 ghost use lib.ListN.{length};

@@ -5,7 +5,8 @@ use Prim.Native.Nat.{ℕ}
 use Rattle.format.specs.declared.Reason.the-variants.{TooShort, SpareBit, ByteCount, TooFewRows, OutOfRange, RepeatedPoint, AreaTooShort}
 use Rattle.format.specs.declared.Outcome.{Outcome}
 use Rattle.format.specs.declared.Outcome.the-variants.{Accepted, Refused}
-use Rattle.header.specs.Header.{headerOf, boundsOf, spareBitOf}
+use Rattle.cursor.specs.Bits.{headerOf}
+use Rattle.header.specs.Header.{boundsOf, spareBitOf}
 use Rattle.row_search.specs.Search.{firstBelow}
 use Rattle.rows.specs.Rows.{numberAt}
 use Rattle.job.specs.Refusals.{outcomeOfRows, outcomeOf}

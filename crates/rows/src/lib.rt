@@ -6,7 +6,7 @@ ghost use Rattle.format.specs.Numbers.{numberFrom};
 ghost use Rattle.header.specs.Header.{boundsOf};
 ghost use Rattle.rows.specs.Rows.{pointsOf, valuesOf};
 ghost use Rattle.rows.specs.Steps.{rowOf, rowAt, setFour};
-use header::wide;
+use cursor::wide;
 
 pub struct Row {
     pub point: u32,

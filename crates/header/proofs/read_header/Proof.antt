@@ -6,7 +6,8 @@ use native.Mathlib.Nat.{div-one}
 use native.Mathlib.Omega.{arith}
 use denote.Ref.{now}
 use Rattle.field.specs.Primes.{primeOfCode}
-use Rattle.header.specs.Header.{headerOf, fieldOf, boundsOf, spareBitOf}
+use Rattle.cursor.specs.Bits.{headerOf, fieldOf}
+use Rattle.header.specs.Header.{boundsOf, spareBitOf}
 use Rattle.header.proofs.read_header.Statement.{statement}
 use Rattle.header.proofs.read_header.Tie as tie
 

@@ -1,7 +1,7 @@
 use borrow.Author.Needs.{needs}
-use Rattle.header.specs.Header.{headerOf}
-use Rattle.header.proofs.cursor.header_number.Statement.{statement}
-use Rattle.header.proofs.cursor.header_number.Tie as tie
+use Rattle.cursor.specs.Bits.{headerOf}
+use Rattle.cursor.proofs.header_number.Statement.{statement}
+use Rattle.cursor.proofs.header_number.Tie as tie
 
 shared-slice-read-wide : tie.Need-shared-slice-read-wide
 shared-slice-read-wide c = search needs

@@ -2,7 +2,7 @@
 ghost use Prim.Native.Nat.{_+_, _<_, _≤_};
 ghost use mathlib.Core.Path.{_≡_};
 ghost use lib.ListN.{length};
-ghost use Rattle.header.specs.Header.{fieldOf, headerOf};
+ghost use Rattle.cursor.specs.Bits.{fieldOf, headerOf};
 
 // The place of the next bit, counted from the top of the first byte.
 pub struct Cursor {

@@ -4,8 +4,8 @@ use Prim.Native.Nat.{ℕ, _*_, _%_, _^_, _≤_}
 use native.Mathlib.Nat.{mod-eq-of-lt, one-mul}
 use native.Mathlib.Omega.{arith}
 use lib.Pow.{pow-mono, pow-pos}
-use Rattle.header.proofs.cursor.Cursor.take.Statement.{statement}
-use Rattle.header.proofs.cursor.Cursor.take.Tie as tie
+use Rattle.cursor.proofs.Cursor.take.Statement.{statement}
+use Rattle.cursor.proofs.Cursor.take.Tie as tie
 
 -- a shifted 1 of at most five places loses nothing
 power-fits : (n : ℕ) → n ≤ 5 → 1 * 2 ^ n % 4294967296 ≡ 2 ^ n
