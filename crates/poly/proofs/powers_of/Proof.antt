@@ -1,0 +1,40 @@
+-- Each power is a product of two before it.
+use mathlib.Core.Path.{_≡_, _∙_, ap}
+use Prim.Native.Nat.{_*_, _%_}
+use native.Mathlib.Nat.{mod-mod}
+use native.Mathlib.Omega.{arith}
+use borrow.Author.Needs.{needs}
+use Rattle.field.specs.Primes.{modulusOf}
+use Rattle.poly.proofs.Values.{same-product}
+use Rattle.poly.proofs.powers_of.Statement.{statement}
+use Rattle.poly.proofs.powers_of.Tie as tie
+
+reduce-requires : tie.Need-reduce-requires
+reduce-requires c κs = search needs
+
+product-requires : tie.Need-product-requires
+product-requires c κs = search needs
+
+product-requires-2 : tie.Need-product-requires-2
+product-requires-2 c κs = search needs
+
+product-requires-3 : tie.Need-product-requires-3
+product-requires-3 c κs = search needs
+
+returns : tie.Need-returns
+returns c =
+    let g = c .before .before .before .before .args in
+    let p = modulusOf (g .q) in
+    let x = g .x in
+    let one = c .before .before .before .reduce .ensures in
+    let two : c .before .before .product .result ≡ x * x % p =
+    rw (c .before .before .product .ensures, one) (same-product p (x % p) x (x % p) x (mod-mod x p) (mod-mod x p)) in
+    let three : c .before .product2 .result ≡ x * x * x % p =
+    rw (c .before .product2 .ensures, two, one) (same-product p (x * x % p) (x * x) (x % p) x (mod-mod (x * x) p) (mod-mod x p)) in
+    let square = mod-mod (x * x) p in
+    let four : c .product3 .result ≡ x * x * x * x % p =
+    rw (c .product3 .ensures, two) (same-product p (x * x % p) (x * x) (x * x % p) (x * x) square square ∙ ap (λ n. n % p) (omega arith)) in
+    (one, two, three, four)
+
+pub powers-of-spec : {M : Type 1} → statement M
+powers-of-spec = tie.close (tie.spec reduce-requires product-requires product-requires-2 product-requires-3 returns)
