@@ -57,8 +57,8 @@ use Rattle.answer.specs.Word.{wordOf, countBelow}
 use Rattle.answer.specs.Bytes.{coefficientBytes, outputBytes}
 use Rattle.format.specs.declared.Outcome.{Outcome}
 use Rattle.recovery.specs.Recovery.{Settled}
-use Rattle.recovery.specs.Solutions.{unsolvedSolution, wordBy, countedSolution, judgedSolution}
-use Rattle.recovery.proofs.Laws.{settled-unique}
+use Rattle.solver.specs.Solutions.{unsolvedSolution, wordBy, countedSolution, judgedSolution}
+use Rattle.recovery_laws.proofs.Laws.{settled-unique}
 use Rattle.hand_examples.specs.Table.{Example, table, Holds, EveryHolds}
 use Rattle.hand_examples.proofs.Model.{Result, resultOf, result-settled}
 

@@ -12,8 +12,8 @@ use Rattle.rows.specs.Rows.{pointsOf, valuesOf}
 use Rattle.job.specs.Refusals.{outcomeOf, WellFormed}
 use Rattle.job.specs.Answer.{readingOf}
 use Rattle.answer.specs.Bytes.{answerBytes, overwritten}
-use Rattle.recovery.specs.declared.Solution.{Solution}
-use Rattle.recovery.specs.Solutions.{solutionFor}
+use Rattle.solver.specs.declared.Solution.{Solution}
+use Rattle.solver.specs.Solutions.{solutionFor}
 use Rattle.recovery.specs.Recovery.{Settled}
 use Rattle.recovery.proofs.Settling.{reading-outcome, settle-early, settle-unsolved, settle-solved}
 

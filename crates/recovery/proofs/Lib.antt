@@ -2,11 +2,4 @@ pub mod Lists
 pub mod Coprime
 pub mod AnswerMeaning
 pub mod Settlement
-pub mod SolutionLaws
 pub mod Settling
-pub mod SameFractions
-pub mod Exactly
-pub mod RowBytes
-pub mod Enlarging
-pub mod Rule
-pub mod Laws

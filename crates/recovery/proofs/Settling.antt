@@ -27,12 +27,12 @@ use Rattle.answer.proofs.Words.{word-same}
 use Rattle.answer.proofs.Marks.{count-of-word}
 use Rattle.judge.specs.Rows.{wrongRow, wrongRowAt}
 use Rattle.judge.proofs.Rows.{wrong-same}
-use Rattle.recovery.specs.declared.Solution.{Solution}
+use Rattle.solver.specs.declared.Solution.{Solution}
 use Rattle.recovery.specs.Answers.{primeOf, wrongAt, wrongCount, Answer, Unsolvable}
 use Rattle.recovery.specs.Recovery.{wordFor, recoveredOutcome, recoveredArea, RefusedEarly, Answered, RefusedUnsolvable, Settled}
-use Rattle.recovery.specs.Solutions.{unsolvedSolution, wordBy, countedSolution, judgedSolution, solutionFor}
+use Rattle.solver.specs.Solutions.{unsolvedSolution, wordBy, countedSolution, judgedSolution, solutionFor}
 use Rattle.recovery.proofs.Settlement.{last, numerators, denominator, unsolvable-early, unsolvable-late, solved}
-use Rattle.recovery.proofs.SolutionLaws.{judged-unsolvable, judged-solvable, counted-many, counted-few}
+use Rattle.solver.proofs.SolutionLaws.{judged-unsolvable, judged-solvable, counted-many, counted-few}
 
 -- the reader's outcome is that of the tests
 with-outcome : (o : Outcome) (s : List ℕ) → readingWith o s .outcome ≡ o

@@ -1,4 +1,2 @@
 pub mod Answers
 pub mod Recovery
-pub mod Enlargement
-pub mod Solutions

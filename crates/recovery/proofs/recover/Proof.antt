@@ -14,9 +14,9 @@ use Rattle.job.proofs.Facts.{well-formed-facts}
 use Rattle.poly.specs.Vectors.{coefficientsAt}
 use Rattle.answer.specs.Bytes.{answerBytes, overwritten}
 use Rattle.candidate.specs.Candidates.{Sized, Table}
-use Rattle.recovery.specs.Solutions.{solutionFor}
+use Rattle.solver.specs.Solutions.{solutionFor}
 use Rattle.recovery.proofs.Settlement.{sized, table}
-use Rattle.recovery.proofs.SolutionLaws.{storable}
+use Rattle.solver.proofs.SolutionLaws.{storable}
 use Rattle.recovery.proofs.Settling.{reading-outcome, reading-accepted, settle-early, settle-unsolved, settle-solved}
 use borrow.Author.Needs.{needs}
 use Rattle.recovery.proofs.recover.Statement.{statement}

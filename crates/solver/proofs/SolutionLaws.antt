@@ -19,8 +19,8 @@ use Rattle.candidate.specs.Candidates.{Sized, Fitting}
 use Rattle.candidate.proofs.Fittings.{numerator-low, denominator-low}
 use Rattle.answer.specs.Word.{wrongCountOf}
 use Rattle.judge.specs.Answers.{Within}
-use Rattle.recovery.specs.declared.Solution.{Solution}
-use Rattle.recovery.specs.Solutions.{unsolvedSolution, wordBy, countedSolution, judgedSolution}
+use Rattle.solver.specs.declared.Solution.{Solution}
+use Rattle.solver.specs.Solutions.{unsolvedSolution, wordBy, countedSolution, judgedSolution}
 
 pub storable : {b : Bounds} → Sized b → Storable b
 storable s = record {

@@ -19,9 +19,9 @@ use Rattle.row_search.proofs.FirstBelow.{any-passes, none-below}
 use Rattle.job.proofs.Facts.{WellFormedFacts, well-formed-facts}
 use Rattle.answer.specs.Word.{flagOf, countBelow, bitAt}
 use Rattle.answer.proofs.Words.{bit-exactly}
 use Rattle.recovery.specs.Answers.{primeOf, wrongAt, wrongCount, Within, Reduced, Answer}
 use Rattle.recovery.specs.Recovery.{Settled}
-use Rattle.recovery.specs.Enlargement.{
+use Rattle.enlargement.specs.Enlargement.{
   AnsweredWith,
   Named,
   rowBytes,
@@ -34,8 +34,8 @@ use Rattle.recovery.specs.Enlargement.{
   Comparable,
   EnlargementRule,
 }
-use Rattle.recovery.proofs.RowBytes.{bytes-equal, equal-bytes, same-point, same-wrong}
-use Rattle.recovery.proofs.Exactly.{answered-named, named-answered, answered-word}
+use Rattle.enlargement.proofs.RowBytes.{bytes-equal, equal-bytes, same-point, same-wrong}
+use Rattle.enlargement.proofs.Exactly.{answered-named, named-answered, answered-word}
 
 -- tests as decisions
 is-true : (t : Bool) → Dec (t ≡ true)

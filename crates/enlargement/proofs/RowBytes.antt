@@ -14,8 +14,8 @@ use Rattle.header.specs.Header.{boundsOf}
 use Rattle.rows.specs.Rows.{numberAt, pointOf, valueOf}
 use Rattle.judge.specs.Rows.{wrongRow}
 use Rattle.judge.proofs.Rows.{wrong-same}
 use Rattle.recovery.specs.Answers.{primeOf, wrongAt}
-use Rattle.recovery.specs.Enlargement.{rowBytes, StandsAt, sameBytes}
+use Rattle.enlargement.specs.Enlargement.{rowBytes, StandsAt, sameBytes}
 
 -- the test on bytes is equality
 both-true : (a b : Bool) → (a && b) ≡ true → (a ≡ true) × (b ≡ true)

@@ -35,10 +35,10 @@ use Rattle.answer.specs.Word.{wordOf}
 use Rattle.answer.specs.Bytes.{numeratorStart}
 use Rattle.answer.proofs.Words.{word-lt, word-same}
 use Rattle.answer.proofs.Reading.{SixteenBits, read-word, read-denominator, read-numerator}
 use Rattle.recovery.specs.Answers.{primeOf, wrongAt, wrongCount, Within, Answer}
 use Rattle.recovery.specs.Recovery.{wordFor, recoveredOutcome, recoveredArea, RefusedEarly, Answered, RefusedUnsolvable, Settled}
-use Rattle.recovery.specs.Enlargement.{Meets, Lists, AnsweredWith, Named, AnsweredExactly}
-use Rattle.recovery.proofs.SameFractions.{Same, same-back, wrong-at-same, wrong-count-same, answer-same, at-most-one}
+use Rattle.enlargement.specs.Enlargement.{Meets, Lists, AnsweredWith, Named, AnsweredExactly}
+use Rattle.recovery_laws.proofs.SameFractions.{Same, same-back, wrong-at-same, wrong-count-same, answer-same, at-most-one}
 
 -- the tests before 8 never answer a job
 not-yet : (reason : Reason) (found : Found) (later : Outcome) (bytes wrong : ℕ) → (later ≡ Recovered bytes wrong → ⊥)

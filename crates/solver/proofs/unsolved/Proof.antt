@@ -1,7 +1,7 @@
-use Rattle.recovery.proofs.SolutionLaws.{unsolved-is}
+use Rattle.solver.proofs.SolutionLaws.{unsolved-is}
 use borrow.Author.Needs.{needs}
-use Rattle.recovery.proofs.unsolved.Statement.{statement}
-use Rattle.recovery.proofs.unsolved.Tie as tie
+use Rattle.solver.proofs.unsolved.Statement.{statement}
+use Rattle.solver.proofs.unsolved.Tie as tie
 
 zero-requires : tie.Need-zero-requires
 zero-requires c κs = search needs

@@ -1,12 +1,12 @@
 use mathlib.Core.Path.{_≡_, ap, _∙_}
 use native.Mathlib.Omega.{arith}
 use borrow.Author.Tests.{not-true, not-false}
-use Rattle.recovery.specs.Solutions.{wordBy, judgedSolution}
+use Rattle.solver.specs.Solutions.{wordBy, judgedSolution}
 use Rattle.answer.specs.Word.{wrongCountOf}
-use Rattle.recovery.proofs.SolutionLaws.{storable, fits-judge, short-answer, judged-unsolvable, judged-solvable, counted-many, counted-few}
+use Rattle.solver.proofs.SolutionLaws.{storable, fits-judge, short-answer, judged-unsolvable, judged-solvable, counted-many, counted-few}
 use borrow.Author.Needs.{needs}
-use Rattle.recovery.proofs.solve.Statement.{statement}
-use Rattle.recovery.proofs.solve.Tie as tie
+use Rattle.solver.proofs.solve.Statement.{statement}
+use Rattle.solver.proofs.solve.Tie as tie
 
 after-outputs-requires : tie.Need-after-outputs-requires
 after-outputs-requires c κs = search needs

@@ -16,12 +16,12 @@ use Rattle.header.specs.Header.{boundsOf}
 use Rattle.job.proofs.Facts.{WellFormedFacts, well-formed-facts}
 use Rattle.answer.specs.Word.{bitAt}
 use Rattle.answer.proofs.Words.{bit-exactly}
 use Rattle.recovery.specs.Answers.{primeOf, wrongAt, wrongCount, Within, Reduced, Answer}
 use Rattle.recovery.specs.Recovery.{Settled}
-use Rattle.recovery.specs.Enlargement.{AnsweredWith, Named, StandsAt, furtherRow, furtherWrong, MarkedAt, Enlarged, Comparable, EnlargementRule}
-use Rattle.recovery.proofs.RowBytes.{same-wrong}
-use Rattle.recovery.proofs.Exactly.{answered-named, named-answered, answered-word}
-use Rattle.recovery.proofs.Enlarging.{wrong-adds, old-or-new}
+use Rattle.enlargement.specs.Enlargement.{AnsweredWith, Named, StandsAt, furtherRow, furtherWrong, MarkedAt, Enlarged, Comparable, EnlargementRule}
+use Rattle.enlargement.proofs.RowBytes.{same-wrong}
+use Rattle.enlargement.proofs.Exactly.{answered-named, named-answered, answered-word}
+use Rattle.enlargement.proofs.Enlarging.{wrong-adds, old-or-new}
 
 module _ {s area : List ℕ} {r : Outcome} {after : List ℕ} (S : Settled s area r after) {s' area' : List ℕ} {r' : Outcome} {after' : List ℕ}
     (S' : Settled s' area' r' after') (f : ℕ → List ℕ) (g : List ℕ) (k : ℕ) (answered : AnsweredWith s r after f g k) (C : Comparable s s' area' f g) where

@@ -14,7 +14,7 @@ use Rattle.candidate.specs.declared.Candidate.{Candidate}
 use Rattle.candidate.specs.Candidates.{candidateAfter}
 use Rattle.answer.specs.Word.{wordOf, wrongCountOf}
 use Rattle.judge.specs.Rows.{wrongRowAt}
-use Rattle.recovery.specs.declared.Solution.{Solution}
+use Rattle.solver.specs.declared.Solution.{Solution}
 
 -- refusal 8
 unfoldable pub unsolvedSolution : Solution

@@ -24,11 +24,11 @@ use Rattle.job.proofs.Facts.{WellFormedFacts, well-formed-facts}
 use Rattle.answer.specs.Bytes.{twoBytes, fourBytes, coefficientBytes, outputBytes, answerBytes, overwritten}
 use Rattle.answer.proofs.Words.{word-same}
 use Rattle.soundness.proofs.Candidates.{P, F, problem, ample, capacity}
 use Rattle.recovery.specs.Answers.{primeOf, wrongAt, wrongCount, Divides, LeadingOne, Reduced, Answer, Unsolvable}
 use Rattle.recovery.specs.Recovery.{wordFor, Answered, Settled}
 use Rattle.recovery.proofs.AnswerMeaning.{answer-means, right-means, value-g, row}
 use Rattle.recovery.proofs.Settlement.{usable, last, numerators, denominator, unsolvable-early, unsolvable-late, solved}
-use Rattle.recovery.proofs.SameFractions.{Same, at-most-one, wrong-at-same, wrong-count-same}
+use Rattle.recovery_laws.proofs.SameFractions.{Same, at-most-one, wrong-at-same, wrong-count-same}
 
 -- the polynomial 1
 pub record IsOne (d : List ℕ) : Type 0 where

@@ -1,8 +1,8 @@
-use Rattle.recovery.proofs.Exactly.{answered-exactly}
-use Rattle.recovery.proofs.Rule.{enlargement}
+use Rattle.enlargement.proofs.Exactly.{answered-exactly}
+use Rattle.enlargement.proofs.Rule.{enlargement}
 use borrow.Author.Needs.{needs}
-use Rattle.recovery.proofs.recover_both.Statement.{statement}
-use Rattle.recovery.proofs.recover_both.Tie as tie
+use Rattle.enlargement.proofs.recover_both.Statement.{statement}
+use Rattle.enlargement.proofs.recover_both.Tie as tie
 
 recover-requires : tie.Need-recover-requires
 recover-requires c κs = search needs

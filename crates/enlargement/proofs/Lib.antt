@@ -1,0 +1,4 @@
+pub mod Exactly
+pub mod RowBytes
+pub mod Enlarging
+pub mod Rule

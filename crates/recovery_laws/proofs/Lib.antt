@@ -1,0 +1,2 @@
+pub mod SameFractions
+pub mod Laws
