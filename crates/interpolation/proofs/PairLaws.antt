@@ -11,10 +11,12 @@ use borrow.Author.Tests.{eq-eqb, ne-eqb, le-leb, lt-leb}
 use Rattle.poly.specs.declared.Poly.{Poly}
 use Rattle.poly.specs.Coefficients.{at, Bounded}
 use Rattle.poly.specs.Vectors.{onePoly, zeroPoly}
+use Rattle.poly.specs.Operations.{lengthOf}
+use Rattle.poly.proofs.Lengths.{length-past}
 use Rattle.poly.proofs.Lists.{at-zeros, bounded-mono, bounded-zeros}
 use Rattle.interpolation.specs.declared.Pair.{Pair}
 use Rattle.interpolation.specs.declared.Pairs.{Pairs}
-use Rattle.interpolation.specs.Pairs.{PairBounded, PairsBounded, advancedOf, combinedOf, choose, stepBy, startOf, stepOf, pairsAfter, discrepancyOf, smallerOf}
+use Rattle.interpolation.specs.Pairs.{PairBounded, PairsBounded, PairShort, advancedOf, combinedOf, choose, stepBy, startOf, stepOf, pairsAfter, discrepancyOf, smallerOf}
 
 -- a pair by its two coefficient lists
 pub pair-is : (a b : Poly) (e : ℕ) {la lb : List ℕ} → a .c ≡ la → b .c ≡ lb
@@ -113,33 +115,53 @@ bounded-one p l = record { residues = low; within = past }
     past zero h = absurd (omega arith)
     past (suc k) h = at-zeros 31 k
 
+-- the shorter bound, once it is known
+pub pair-shorter : {p n m : ℕ} {s : Pair} → PairBounded p n s → PairShort m s → PairBounded p m s
+pair-shorter h l = record {
+  left = record { residues = h .left .residues; within = l .left };
+  right = record { residues = h .right .residues; within = l .right };
+}
+
+pub pair-short : {p n : ℕ} {s : Pair} → PairBounded p n s → PairShort n s
+pair-short h = record { left = h .left .within; right = h .right .within }
+
+-- a pair is zero from the length of each of its polynomials on
+pub short-by-lengths : (s : Pair) (n : ℕ) → lengthOf (s .a .c) ≤ n → lengthOf (s .b .c) ≤ n → PairShort n s
+short-by-lengths s n la lb = record { left = λ k h. length-past (s .a .c) k (omega arith); right = λ k h. length-past (s .b .c) k (omega arith) }
+
+pub short-mono : {n m : ℕ} {s : Pair} → PairShort n s → n ≤ m → PairShort m s
+short-mono h l = record { left = λ k g. h .left k (omega arith); right = λ k g. h .right k (omega arith) }
+
 -- what the loop over the rows keeps
-pub record Reached (p : ℕ) (points z : List ℕ) (A B k : ℕ) (s : Pairs) : Type 0 where
+pub record Reached (p : ℕ) (points z : List ℕ) (A B k n : ℕ) (s : Pairs) : Type 0 where
   pub same : s ≡ pairsAfter p points z A B k
-  pub bounded : PairsBounded p (k + 1) s
+  pub low : n ≤ k + 1
+  pub bounded : PairsBounded p n s
   pub first-low : s .first .e ≤ B + k
   pub second-low : s .second .e ≤ A + k
 
-pub reached-start : (p : ℕ) (points z : List ℕ) (A B : ℕ) (s : Pairs) → 1 < p → s ≡ startOf A B → Reached p points z A B 0 s
+pub reached-start : (p : ℕ) (points z : List ℕ) (A B : ℕ) (s : Pairs) → 1 < p → s ≡ startOf A B → Reached p points z A B 0 1 s
 unfolding startOf pairsAfter
 reached-start p points z A B s l e =
     let null : Bounded p 1 (zeroPoly .c) = bounded-zeros p 1 32 (omega arith) in
-    let start : PairsBounded p (0 + 1) (startOf A B) = record {
+    let start : PairsBounded p 1 (startOf A B) = record {
       one = record { left = bounded-one p l; right = null };
       two = record { left = null; right = bounded-one p l };
     } in
     record {
       same = e;
-      bounded = subst (PairsBounded p (0 + 1)) (sym e) start;
+      low = omega arith;
+      bounded = subst (PairsBounded p 1) (sym e) start;
       first-low = omega (arith, ap first-number e);
       second-low = omega (arith, ap second-number e);
     }
 
-pub reached-step : {p : ℕ} {points z : List ℕ} {A B k : ℕ} {s : Pairs} → Reached p points z A B k s → (r : Pairs)
-    → r ≡ stepOf p (getD points k 0) (getD z k 0) s → PairsBounded p (k + 1 + 1) r → Reached p points z A B (k + 1) r
+pub reached-step : {p : ℕ} {points z : List ℕ} {A B k n : ℕ} {s : Pairs} → Reached p points z A B k n s → (r : Pairs) (m : ℕ)
+    → r ≡ stepOf p (getD points k 0) (getD z k 0) s → m ≤ k + 1 + 1 → PairsBounded p m r → Reached p points z A B (k + 1) m r
 unfolding pairsAfter
-reached-step {p} {points} {z} {A} {B} {k} {s} h r e b = record {
+reached-step {p} {points} {z} {A} {B} {k} {n} {s} h r m e l b = record {
   same = e ∙ ap (stepOf p (getD points k 0) (getD z k 0)) (h .same) ∙ ap (pairsAfter p points z A B) (sym (add-one k));
+  low = l;
   bounded = b;
   first-low = omega (arith, ap first-number e, first-rises p x d0 d1 s, h .first-low);
   second-low = omega (arith, ap second-number e, second-rises p x d0 d1 s, h .second-low);

@@ -1,10 +1,11 @@
 -- The two pairs of polynomials, row by row, as the code makes them.
+use mathlib.Core.Path.{_≡_}
 use mathlib.Core.Bool.{Bool, true, false}
 use mathlib.Core.List.{List}
 use Prim.Native.Nat.{ℕ, zero, suc, _+_, _-_, _*_, _%_, _≤_, _<_}
 use lib.Dec.{eqb, leb}
 use lib.ListN.{getD}
-use Rattle.poly.specs.Coefficients.{Bounded}
+use Rattle.poly.specs.Coefficients.{at, Bounded}
 use Rattle.poly.specs.Vectors.{onePoly, zeroPoly}
 use Rattle.poly.specs.Operations.{valueOf, combinationOf, timesLinearOf}
 use Rattle.interpolation.specs.declared.Pair.{Pair}
@@ -18,6 +19,11 @@ pub record PairBounded (p n : ℕ) (s : Pair) : Type 0 where
 pub record PairsBounded (p n : ℕ) (s : Pairs) : Type 0 where
   pub one : PairBounded p n (s .first)
   pub two : PairBounded p n (s .second)
+
+-- both polynomials are zero from n on
+pub record PairShort (n : ℕ) (s : Pair) : Type 0 where
+  pub left : (k : ℕ) → n ≤ k → at (s .a .c) k ≡ 0
+  pub right : (k : ℕ) → n ≤ k → at (s .b .c) k ≡ 0
 
 -- what the rows and the degree bounds A and B keep to
 pub record Conditions (p : ℕ) (points z : List ℕ) (rows A B : ℕ) : Type 0 where

@@ -6,6 +6,7 @@ ghost use Rattle.field.specs.Primes.{modulusOf};
 ghost use Rattle.interpolation.specs.Pairs.{
   PairBounded,
   PairsBounded,
+  PairShort,
   Conditions,
   discrepancyOf,
   advancedOf,
@@ -142,7 +143,30 @@ fn start(bound_a: usize, bound_b: usize) -> Pairs
     }
 }
 
-// Both pairs after the first rows.
+// From where on both polynomials of a pair, or of both pairs, are zero.
+fn pair_length(n: usize, s: Pair) -> usize
+    requires { ⌜ (n ≤ 32) × PairShort n s ⌝ }
+    ensures { λ r. ⌜ (r ≤ n) × PairShort r s ⌝ }
+{
+    let a = s.a;
+    let b = s.b;
+    let la = poly::length(n, a);
+    let lb = poly::length(n, b);
+    if la < lb { lb } else { la }
+}
+
+fn pairs_length(n: usize, s: Pairs) -> usize
+    requires { ⌜ (n ≤ 32) × PairShort n (s .first) × PairShort n (s .second) ⌝ }
+    ensures { λ r. ⌜ (r ≤ n) × PairShort r (s .first) × PairShort r (s .second) ⌝ }
+{
+    let first = s.first;
+    let second = s.second;
+    let l0 = pair_length(n, first);
+    let l1 = pair_length(n, second);
+    if l0 < l1 { l1 } else { l0 }
+}
+
+// Both pairs after the first rows. Their polynomials are about half as long as the rows would allow, and n follows their length.
 fn after_rows(
     q: Prime,
     points: [u32; 32],
@@ -155,10 +179,12 @@ fn after_rows(
     ensures { λ r. ⌜ (r ≡ pairsAfter (modulusOf q) points z «bound_a» «bound_b» rows) × PairsBounded (modulusOf q) (rows + 1) r ⌝ }
 {
     let mut s = start(bound_a, bound_b);
+    let mut n: usize = 1;
     for k in 0..rows {
         let x = points[k];
         let v = z[k];
-        s = step(q, k + 1, x, v, s);
+        s = step(q, n, x, v, s);
+        n = pairs_length(n + 1, s);
     }
     s
 }

@@ -1,18 +1,18 @@
-use Prim.Native.Nat.{ℕ, _-_, _≤_}
-use mathlib.Core.Path.{_≡_, subst}
+use Prim.Native.Nat.{_+_, _-_, _≤_}
+use mathlib.Core.Path.{_≡_}
 use native.Mathlib.Omega.{arith}
 use borrow.Author.Needs.{needs}
 use Rattle.field.specs.Primes.{modulusOf}
 use Rattle.field.proofs.Moduli.{modulus-prime}
-use Rattle.interpolation.proofs.PairLaws.{Reached, reached-start, reached-step}
+use Rattle.interpolation.proofs.PairLaws.{Reached, reached-start, reached-step, pair-mono, pair-short, pair-shorter}
 use Rattle.interpolation.proofs.after_rows.Statement.{statement}
 use Rattle.interpolation.proofs.after_rows.Tie as tie
 
 abbrev Inv-loop : tie.InvT-loop
-Inv-loop q rows bound-a bound-b points z s₀ k₀ s k = (k ≤ rows) × Reached (modulusOf q) points z bound-a bound-b k s
+Inv-loop q rows bound-a bound-b points z s₀ n₀ k₀ s n k = (k ≤ rows) × Reached (modulusOf q) points z bound-a bound-b k n s
 
 abbrev μ-loop : tie.MeasureT-loop
-μ-loop q rows bound-a bound-b points z s₀ k₀ s k = rows - k
+μ-loop q rows bound-a bound-b points z s₀ n₀ k₀ s n k = rows - k
 
 start-requires : tie.Need-start-requires Inv-loop μ-loop
 start-requires c κs = search needs
@@ -33,14 +33,19 @@ mul-v c = omega arith
 array-read-v : tie.Need-array-read-v Inv-loop μ-loop
 array-read-v c = omega arith
 
-add-step : tie.Need-add-step Inv-loop μ-loop
-add-step c = omega arith
-
 step-requires : tie.Need-step-requires Inv-loop μ-loop
 step-requires c κs =
     let S = c .before .before .before in
     let r = c .before .loop .inv .1 in
-    (omega arith, S .pre .points-below _, S .pre .z-below _, r .bounded, omega arith, omega arith)
+    (omega (arith, r .low), S .pre .points-below _, S .pre .z-below _, r .bounded, omega (arith, r .first-low), omega (arith, r .second-low))
+
+add-pairs-length : tie.Need-add-pairs-length Inv-loop μ-loop
+add-pairs-length c = omega (arith, c .before .before .loop .inv .1 .low)
+
+pairs-length-requires : tie.Need-pairs-length-requires Inv-loop μ-loop
+pairs-length-requires c κs =
+    let b = c .step .ensures .1 in
+    (omega (arith, c .before .before .loop .inv .1 .low), pair-short (b .one), pair-short (b .two))
 
 add-k : tie.Need-add-k Inv-loop μ-loop
 add-k c = omega arith
@@ -49,16 +54,27 @@ loop-less : tie.Need-loop-less Inv-loop μ-loop
 loop-less c = omega arith
 
 loop-again : tie.Need-loop-again Inv-loop μ-loop
-loop-again c = (omega arith, reached-step (c .before .before .loop .inv .1) (c .step .result) (c .step .ensures .0) (c .step .ensures .1))
+loop-again c =
+    let S = c .before in
+    let reached = S .before .before .loop .inv .1 in
+    let b = S .step .ensures .1 in
+    let l = c .pairs-length .ensures in
+    let low : c .pairs-length .result ≤ S .before .before .loop .k + 1 + 1 = omega (arith, l .0, reached .low) in (
+      omega arith,
+      reached-step reached (S .step .result) (c .pairs-length .result) (S .step .ensures .0) low (record {
+        one = pair-shorter (b .one) (l .1);
+        two = pair-shorter (b .two) (l .2);
+      }),
+    )
 
 returns : tie.Need-returns Inv-loop μ-loop
 returns c =
     let S = c .before .before .before in
     let all : c .before .loop .k ≡ S .args .rows = omega arith in
-    let r : Reached (modulusOf (S .args .q)) (S .args .t2) (S .args .t3) (S .args .bound-a) (S .args .bound-b) (S .args .rows) (c .before .loop .s) =
-    subst (λ (k : ℕ). Reached (modulusOf (S .args .q)) (S .args .t2) (S .args .t3) (S .args .bound-a) (S .args .bound-b) k (c .before .loop .s)) all
-    (c .before .loop .inv .1) in
-    (r .same, r .bounded)
+    let reached = c .before .loop .inv .1 in
+    let b = reached .bounded in
+    let l : c .before .loop .n ≤ S .args .rows + 1 = omega (arith, reached .low) in
+    (rw all at (reached .same), record { one = pair-mono (b .one) l; two = pair-mono (b .two) l })
 
 pub after-rows-spec : {M : Type 1} → statement M
 after-rows-spec =
@@ -72,8 +88,9 @@ after-rows-spec =
     array-read-x
     mul-v
     array-read-v
-    add-step
     step-requires
+    add-pairs-length
+    pairs-length-requires
     add-k
     loop-less
     loop-again
