@@ -3,7 +3,7 @@
 use mathlib.Core.List.{List, _∷_}
 use Prim.Native.Nat.{ℕ, zero, suc, _+_, _-_, _*_, _%_}
 use lib.ListN.{set, replicate}
-use Rattle.field.specs.Residues.{reciprocalOf}
+use Rattle.reciprocal.specs.Reciprocals.{reciprocalOf}
 use Rattle.poly.specs.Coefficients.{at, tabulate}
 use Rattle.poly.specs.Operations.{lengthOf}
 

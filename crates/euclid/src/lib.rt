@@ -42,7 +42,7 @@ pub fn divide(q: Prime, a: Poly, la: usize, b: Poly, lb: usize) -> Division
     ensures { λ r. ⌜ (r .quotient .c ≡ quotientOf (modulusOf q) (a .c) (b .c)) × Bounded (modulusOf q) (la + 1 - lb) (r .quotient .c)
         × (r .remainder .c ≡ remainderOf (modulusOf q) (a .c) (b .c)) × Bounded (modulusOf q) (lb - 1) (r .remainder .c) ⌝ }
 {
-    let inverse = field::reciprocal(q, b.c[lb - 1]);
+    let inverse = reciprocal::reciprocal(q, b.c[lb - 1]);
     let mut quotient = poly::zero();
     let mut remainder = a;
     let mut top = la;

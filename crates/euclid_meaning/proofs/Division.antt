@@ -10,7 +10,7 @@ use Rattle.algebra.proofs.Bounds.{Polynomial}
 use Rattle.algebra.proofs.Degree.{HasDegree}
 use Rattle.algebra.proofs.Division.{Division, division-unique}
 use Rattle.field.proofs.Primality.{IsPrime}
-use Rattle.field.proofs.PrimeField.{residueRing, residueField}
+use Rattle.reciprocal.proofs.PrimeField.{residueRing, residueField}
 use Rattle.poly.specs.Coefficients.{Bounded}
 use Rattle.poly.proofs.Lists.{at-zeros, bounded-mono}
 use Rattle.poly_meaning.proofs.Series.{series, series-below, zeros-means}

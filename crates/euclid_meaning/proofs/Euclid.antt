@@ -4,7 +4,7 @@ use mathlib.Core.List.{List}
 use Prim.Native.Nat.{ℕ}
 use Rattle.algebra.proofs.Euclid.{CommonDivisor, euclid-stop, euclid-step}
 use Rattle.field.proofs.Primality.{IsPrime}
-use Rattle.field.proofs.PrimeField.{residueField}
+use Rattle.reciprocal.proofs.PrimeField.{residueField}
 use Rattle.poly.specs.Operations.{lengthOf}
 use Rattle.poly_meaning.proofs.Series.{series, series-below}
 use Rattle.poly_meaning.proofs.Degrees.{length-means-null}

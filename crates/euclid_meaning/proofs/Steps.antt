@@ -10,7 +10,7 @@ use lib.Seq.{getD-set-same, getD-set-other}
 use Rattle.algebra.proofs.Ring.{Ring, ring, null-add, neg-mul, mul-null, null-mul}
 use Rattle.algebra.proofs.Series.{Series, cons, addS, negS, mulS, mulS-zero, mulS-suc, constS-mul-at, seriesRing}
 use Rattle.field.proofs.Primality.{IsPrime}
-use Rattle.field.proofs.PrimeField.{Residue, residue, addR, mulR, negR, addR-null, residue-add, residue-mul, residue-neg, residueRing}
+use Rattle.reciprocal.proofs.PrimeField.{Residue, residue, addR, mulR, negR, addR-null, residue-add, residue-mul, residue-neg, residueRing}
 use Rattle.poly.specs.Coefficients.{at, Bounded}
 use Rattle.poly.proofs.Lists.{at-past}
 use Rattle.poly_meaning.proofs.Series.{series, residue-mod, tabulate-means}

@@ -1,10 +1,8 @@
 // The numbers modulo one of the four primes: any operands, reduced results.
-ghost use Prim.Native.Nat.{ℕ, _+_, _*_, _-_, _%_, _<_};
+ghost use Prim.Native.Nat.{_+_, _*_, _%_};
 ghost use mathlib.Core.Path.{_≡_};
 ghost use Rattle.field.specs.Primes.{modulusOf, primeOfCode};
-ghost use Rattle.field.specs.Residues.{differenceOf, negationOf, reciprocalOf};
-
-mod table257;
+ghost use Rattle.field.specs.Residues.{differenceOf, negationOf};
 
 // Paper 01, "Primes by code".
 pub enum Prime {
@@ -63,40 +61,11 @@ pub fn negation(q: Prime, a: u32) -> u32
 pub fn difference(q: Prime, a: u32, b: u32) -> u32
     ensures { λ r. ⌜ r ≡ differenceOf (modulusOf q) a b ⌝ }
 {
-    reduce(q, a as u64 + (modulus(q) - reduce(q, b as u64)) as u64)
+    sum(q, a, negation(q, b))
 }
 
 pub fn product(q: Prime, a: u32, b: u32) -> u32
     ensures { λ r. ⌜ r ≡ (a * b) % modulusOf q ⌝ }
 {
     reduce(q, a as u64 * b as u64)
-}
-
-// Keeps acc * a = b modulo p while b falls to 1. It never is 0, since no b between 1 and p divides the prime p.
-fn computed_reciprocal(q: Prime, a: u32) -> u32
-    requires { ⌜ (0 < a) × (a < modulusOf q) ⌝ }
-    ensures { λ r. ⌜ r ≡ reciprocalOf (modulusOf q) a ⌝ }
-{
-    let p = modulus(q);
-    let mut acc: u32 = 1;
-    let mut b = a;
-    while 1 < b {
-        acc = product(q, acc, p - p / b);
-        b = p % b;
-    }
-    acc
-}
-
-// The reciprocal of 0 is 0.
-pub fn reciprocal(q: Prime, a: u32) -> u32
-    ensures { λ r. ⌜ r ≡ reciprocalOf (modulusOf q) a ⌝ }
-{
-    let x = reduce(q, a as u64);
-    if x == 0 {
-        return 0;
-    }
-    match q {
-        Prime::P257 => table257::reciprocal_of(x),
-        _ => computed_reciprocal(q, x),
-    }
 }

@@ -4,9 +4,9 @@ use mathlib.Core.List.{List}
 use Prim.Native.Nat.{ℕ, zero, suc, _-_, _<_}
 use native.Mathlib.Omega.{arith}
 use Rattle.algebra.proofs.Series.{mulS, mulS-null}
-use Rattle.field.specs.Residues.{reciprocalOf}
+use Rattle.reciprocal.specs.Reciprocals.{reciprocalOf}
 use Rattle.field.proofs.Primality.{IsPrime}
-use Rattle.field.proofs.PrimeField.{residueRing}
+use Rattle.reciprocal.proofs.PrimeField.{residueRing}
 use Rattle.poly.specs.Coefficients.{at}
 use Rattle.poly.specs.Operations.{lengthOf, scaledAt, scaledOf}
 use Rattle.poly.proofs.Lists.{at-tabulate}

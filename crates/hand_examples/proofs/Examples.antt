@@ -17,7 +17,7 @@ use Rattle.poly.specs.Operations.{
   productAt,
   productOf,
 }
-use Rattle.field.specs.Residues.{lastBelow, reciprocalOf}
+use Rattle.reciprocal.specs.Reciprocals.{lastBelow, reciprocalOf}
 use Rattle.euclid.specs.Division.{
   shifted,
   cancelledAt,

@@ -7,7 +7,7 @@ use Rattle.algebra.proofs.Series.{nullS, nullS-at}
 use Rattle.algebra.proofs.Bounds.{Below, below-zero}
 use Rattle.algebra.proofs.Degree.{HasDegree}
 use Rattle.field.proofs.Primality.{IsPrime}
-use Rattle.field.proofs.PrimeField.{residue, residueRing, residueField}
+use Rattle.reciprocal.proofs.PrimeField.{residue, residueRing, residueField}
 use Rattle.poly.specs.Coefficients.{at, Bounded}
 use Rattle.poly.specs.Operations.{lengthOf}
 use Rattle.poly.proofs.Lengths.{length-top, length-is, length-at-most, bounded-length}

@@ -6,7 +6,7 @@ use native.Mathlib.Nat.{zero-add}
 use native.Mathlib.Omega.{arith}
 use Rattle.algebra.proofs.Series.{mulS, mulS-zero, mulS-suc}
 use Rattle.field.proofs.Primality.{IsPrime}
-use Rattle.field.proofs.PrimeField.{residue, addR, residue-add, residue-mul, residueRing}
+use Rattle.reciprocal.proofs.PrimeField.{residue, addR, residue-add, residue-mul, residueRing}
 use Rattle.poly.specs.Coefficients.{at, Bounded}
 use Rattle.poly.specs.Operations.{sumBelow, productAt, productOf}
 use Rattle.poly_product.proofs.Products.{sum-first, sum-cong, product-reduced-past}

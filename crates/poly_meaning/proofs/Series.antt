@@ -11,7 +11,7 @@ use Rattle.algebra.proofs.Series.{Series, addS, negS, nullS, constS, scaleS, mu
 use Rattle.algebra.proofs.Bounds.{Below}
 use Rattle.algebra.proofs.Value.{value, value-stable, linear, linear-mul-zero, linear-mul-suc}
 use Rattle.field.proofs.Primality.{IsPrime}
-use Rattle.field.proofs.PrimeField.{Residue, residue, residue-equal, equal-residue, addR, mulR, negR, residue-add, residue-mul, residue-neg, residueRing}
+use Rattle.reciprocal.proofs.PrimeField.{Residue, residue, residue-equal, equal-residue, addR, mulR, negR, residue-add, residue-mul, residue-neg, residueRing}
 use Rattle.poly.specs.Coefficients.{at, tabulate, Bounded}
 use Rattle.poly.specs.Operations.{valueOf, combinationAt, combinationOf, timesLinearAt, timesLinearOf, scaledAt, scaledOf}
 use Rattle.poly.proofs.Lists.{at-tabulate-all, at-past, at-zeros}

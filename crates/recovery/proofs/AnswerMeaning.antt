@@ -9,7 +9,7 @@ use native.Mathlib.Omega.{arith}
 use Rattle.algebra.proofs.Series.{Series}
 use Rattle.algebra.proofs.Value.{value}
 use Rattle.method.proofs.Problem.{Answer as MethodAnswer, Right, Wrong, wrongCount as methodWrongCount, wrongCount-right, wrongCount-wrong, wrongCount-all-right, Evaluation, Problem}
-use Rattle.field.proofs.PrimeField.{Residue, residue, residue-mul, equal-residue}
+use Rattle.reciprocal.proofs.PrimeField.{Residue, residue, residue-mul, equal-residue}
 use Rattle.format.specs.Bounds.{numeratorBoundOf}
 use Rattle.poly.specs.Coefficients.{at, Bounded}
 use Rattle.poly.specs.Operations.{valueOf}

@@ -8,7 +8,7 @@ use Rattle.algebra.proofs.Series.{Series, nullS, mulS}
 use Rattle.algebra.proofs.Bounds.{Polynomial, polynomial-null}
 use Rattle.algebra.proofs.Reduced.{Reduced as ReducedSeries}
 use Rattle.field.proofs.Primality.{IsPrime}
-use Rattle.field.proofs.PrimeField.{residue, residue-equal, equal-residue, residueRing, residueField}
+use Rattle.reciprocal.proofs.PrimeField.{residue, residue-equal, equal-residue, residueRing, residueField}
 use Rattle.poly.specs.Coefficients.{at}
 use Rattle.poly_meaning.proofs.Series.{series, series-at}
 use Rattle.recovery.specs.Answers.{Divides, Coprime}

@@ -6,7 +6,7 @@ use native.Mathlib.Nat.{zero-mod}
 use Rattle.algebra.proofs.Series.{Series, mulS}
 use Rattle.algebra.proofs.Bounds.{Below, Polynomial}
 use Rattle.field.proofs.Primality.{IsPrime}
-use Rattle.field.proofs.PrimeField.{Residue, residue, residue-number, residue-equal, equal-residue, residueRing}
+use Rattle.reciprocal.proofs.PrimeField.{Residue, residue, residue-number, residue-equal, equal-residue, residueRing}
 use Rattle.poly.specs.Coefficients.{at, tabulate}
 use Rattle.poly.specs.Operations.{productAt}
 use Rattle.poly_meaning.proofs.Series.{series, series-at, series-below-length, tabulate-means}

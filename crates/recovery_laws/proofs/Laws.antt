@@ -9,7 +9,7 @@ use native.Mathlib.Decide.{decLt, ℕ-discrete}
 use native.Mathlib.Omega.{arith}
 use lib.ListN.{length}
 use Rattle.method.proofs.Problem.{right-nonzero, ample-fits}
-use Rattle.field.proofs.PrimeField.{residue}
+use Rattle.reciprocal.proofs.PrimeField.{residue}
 use Rattle.format.specs.declared.Outcome.{Outcome}
 use Rattle.format.specs.declared.Bounds.{Bounds}
 use Rattle.format.specs.Bounds.{numeratorBoundOf, answerLengthOf}

@@ -7,7 +7,7 @@ use native.Mathlib.Nat.{mod-eq-of-lt}
 use native.Mathlib.Omega.{arith}
 use Rattle.algebra.proofs.Series.{Series}
 use Rattle.method.proofs.Decision.{unique}
-use Rattle.field.proofs.PrimeField.{equal-residue}
+use Rattle.reciprocal.proofs.PrimeField.{equal-residue}
 use Rattle.poly.specs.Coefficients.{at, Bounded}
 use Rattle.poly_meaning.proofs.Series.{series-at}
 use Rattle.header.specs.Header.{boundsOf}

@@ -29,7 +29,7 @@ use Rattle.method.proofs.Outputs.{
 }
 use Rattle.field.proofs.Primality.{IsPrime}
 use Rattle.field.proofs.Moduli.{modulus-prime}
-use Rattle.field.proofs.PrimeField.{residue, equal-residue, residueRing, residueField}
+use Rattle.reciprocal.proofs.PrimeField.{residue, equal-residue, residueRing, residueField}
 use Rattle.format.specs.declared.Bounds.{Bounds}
 use Rattle.format.specs.Bounds.{numeratorBoundOf}
 use Rattle.poly.specs.declared.Poly.{Poly}

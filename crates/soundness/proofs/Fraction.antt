@@ -11,9 +11,9 @@ use Rattle.algebra.proofs.Series.{Series, nullS, scaleS, mulS}
 use Rattle.algebra.proofs.Degree.{HasDegree}
 use Rattle.algebra.proofs.Euclid.{CommonDivisor}
 use Rattle.algebra.proofs.LowestTerms.{LowestTerms, lowest-terms-of, monic-degree}
-use Rattle.field.specs.Residues.{reciprocalOf}
+use Rattle.reciprocal.specs.Reciprocals.{reciprocalOf}
 use Rattle.field.proofs.Primality.{IsPrime}
-use Rattle.field.proofs.PrimeField.{Residue, residue, invR, residueRing, residueField}
+use Rattle.reciprocal.proofs.PrimeField.{Residue, residue, invR, residueRing, residueField}
 use Rattle.poly.specs.Coefficients.{at, Bounded}
 use Rattle.poly.specs.Operations.{lengthOf, scaledOf}
 use Rattle.poly.proofs.Lists.{bounded-mono}

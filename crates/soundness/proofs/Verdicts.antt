@@ -11,7 +11,7 @@ use Rattle.algebra.proofs.Value.{value}
 use Rattle.method.proofs.Solution.{Solves}
 use Rattle.method.proofs.CrossProduct.{conditions}
 use Rattle.method.proofs.Outputs.{none-if-psi-null}
-use Rattle.field.proofs.PrimeField.{residue, residue-mul}
+use Rattle.reciprocal.proofs.PrimeField.{residue, residue-mul}
 use Rattle.format.specs.declared.Bounds.{Bounds}
 use Rattle.poly.specs.Coefficients.{at}
 use Rattle.poly.specs.Operations.{valueOf, lengthOf}

@@ -5,11 +5,11 @@ use mathlib.Core.Bool.{Bool, true, false, cond}
 use native.Mathlib.Nat.{add-mul-mod-self-right, div-add-mod', mod-eq-of-lt, mod-lt, mul-le-mul-left, one-mul}
 use native.Mathlib.Decide.{decLe}
 use native.Mathlib.Omega.{arith}
-use lib.Dec.{eqb, eqb→eq}
+use lib.Dec.{eqb}
 use borrow.Author.Tests.{eq-eqb, ne-eqb, eqb-true}
-use Rattle.field.specs.Residues.{lastBelow, reciprocalOf}
+use Rattle.reciprocal.specs.Reciprocals.{lastBelow, reciprocalOf}
 use Rattle.field.proofs.Remainders.{mod-mul, mul-mod}
 use Rattle.field.proofs.Primality.{IsPrime}
 
 -- a test that r passes, and no other number below m, finds r
 last-is : (test : ℕ → Bool) (m r : ℕ) → test r ≡ true → ((s : ℕ) → s < m → test s ≡ true → s ≡ r)

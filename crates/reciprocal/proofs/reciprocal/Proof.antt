@@ -1,13 +1,13 @@
 use Prim.Native.Nat.{_%_}
 use mathlib.Core.Path.{sym, ap, _∙_}
 use native.Mathlib.Omega.{arith}
 use Rattle.field.specs.Primes.{modulusOf}
-use Rattle.field.specs.Residues.{reciprocalOf}
+use Rattle.reciprocal.specs.Reciprocals.{reciprocalOf}
 use Rattle.field.proofs.Moduli.{modulus-prime, residue-below}
-use Rattle.field.proofs.Reciprocals.{reciprocal-of-residue, reciprocal-of-zero}
+use Rattle.reciprocal.proofs.Reciprocals.{reciprocal-of-residue, reciprocal-of-zero}
 use borrow.Author.Needs.{needs}
-use Rattle.field.proofs.reciprocal.Statement.{statement}
-use Rattle.field.proofs.reciprocal.Tie as tie
+use Rattle.reciprocal.proofs.reciprocal.Statement.{statement}
+use Rattle.reciprocal.proofs.reciprocal.Tie as tie
 
 reduce-requires : tie.Need-reduce-requires
 reduce-requires c κs = search needs

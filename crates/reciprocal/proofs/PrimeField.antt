@@ -7,10 +7,10 @@ use native.Mathlib.Decide.{Fin·val-path, Fin-discrete}
 use native.Mathlib.Omega.{arith}
 use Rattle.algebra.proofs.Ring.{Ring}
 use Rattle.algebra.proofs.Field.{Field}
-use Rattle.field.specs.Residues.{reciprocalOf}
+use Rattle.reciprocal.specs.Reciprocals.{reciprocalOf}
 use Rattle.field.proofs.Primality.{IsPrime}
 use Rattle.field.proofs.Remainders.{mod-mul, mul-mod}
-use Rattle.field.proofs.Reciprocals.{reciprocal-inverts}
+use Rattle.reciprocal.proofs.Reciprocals.{reciprocal-inverts}
 
 module _ (p : ℕ) (P : IsPrime p) where
   abbrev pub Residue : Type 0

@@ -1,5 +1,5 @@
 -- The table's rule is computed once over all entries: entry 0 is 0, and each other entry is below 257 and leaves 1 times its index.
-use Prim.Native.Nat.{ℕ, zero, suc, _*_, _%_, _<_}
+use Prim.Native.Nat.{ℕ, zero, suc, _*_, _%_}
 use mathlib.Core.Path.{_≡_, refl}
 use mathlib.Core.Bool.{Bool, true, false, cond}
 use mathlib.Core.List.{List}
@@ -8,11 +8,11 @@ use lib.Dec.{T, eqb, eqb→eq, lit<, ltb, ltb→lt}
 use native.Mathlib.Nat.{zero-mod}
 use borrow.Author.Needs.{needs}
 use borrow.Author.Tests.{lt-ltb}
-use Rattle.field.specs.Residues.{reciprocalOf}
-use Rattle.field.proofs.Reciprocals.{reciprocal-is, reciprocal-of-zero}
-use Rattle.field.proofs.Table.{at-entry, both, every, both-first, both-second}
-use Rattle.field.proofs.table257.reciprocal_of.Statement.{statement}
-use Rattle.field.proofs.table257.reciprocal_of.Tie as tie
+use Rattle.reciprocal.specs.Reciprocals.{reciprocalOf}
+use Rattle.reciprocal.proofs.Reciprocals.{reciprocal-is, reciprocal-of-zero}
+use Rattle.reciprocal.proofs.Table.{at-entry, both, every, both-first, both-second}
+use Rattle.reciprocal.proofs.table257.reciprocal_of.Statement.{statement}
+use Rattle.reciprocal.proofs.table257.reciprocal_of.Tie as tie
 
 -- the rule at one entry
 inverts : ℕ → ℕ → Bool

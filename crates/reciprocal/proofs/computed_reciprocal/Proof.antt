@@ -4,12 +4,12 @@ use mathlib.Core.Path.{_≡_, sym, ap, subst, _∙_}
 use native.Mathlib.Nat.{div-le-self, mod-eq-of-lt, mod-lt, one-mul}
 use native.Mathlib.Omega.{arith}
 use borrow.Author.Needs.{needs}
 use Rattle.field.specs.Primes.{modulusOf}
-use Rattle.field.proofs.Moduli.{modulus-prime, residue-below}
+use Rattle.field.proofs.Moduli.{modulus-prime}
 use Rattle.field.proofs.Primality.{IsPrime}
-use Rattle.field.proofs.Reciprocals.{reciprocal-is, reciprocal-step}
-use Rattle.field.proofs.computed_reciprocal.Statement.{statement}
-use Rattle.field.proofs.computed_reciprocal.Tie as tie
+use Rattle.reciprocal.proofs.Reciprocals.{reciprocal-is, reciprocal-step}
+use Rattle.reciprocal.proofs.computed_reciprocal.Statement.{statement}
+use Rattle.reciprocal.proofs.computed_reciprocal.Tie as tie
 
 abbrev Inv-loop : tie.InvT-loop
 Inv-loop q a p acc₀ b₀ acc b = (p ≡ modulusOf q) × (0 < b) × (b < p) × (acc < p) × (acc * a % p ≡ b)

@@ -1,7 +1,7 @@
 // Reciprocals modulo 257, from a constant table.
 ghost use Prim.Native.Nat.{_<_};
 ghost use mathlib.Core.Path.{_≡_};
-ghost use Rattle.field.specs.Residues.{reciprocalOf};
+ghost use Rattle.reciprocal.specs.Reciprocals.{reciprocalOf};
 
 // Entry times index is 1 modulo 257, but for index 0.
 const RECIPROCALS: [u32; 257] = [

@@ -1,0 +1,3 @@
+pub mod Reciprocals
+mod Table
+pub mod PrimeField
