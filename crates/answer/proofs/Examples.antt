@@ -6,7 +6,6 @@ use lib.Dec.{eqb, lit≤}
 use Rattle.field.specs.declared.Prime.the-variants.{P7}
 use Rattle.format.specs.declared.Bounds.{Bounds}
 use Rattle.format.specs.Bounds.{answerLengthOf, Storable}
-use Rattle.answer.specs.Word.{wordOf, wrongCountOf, firstWrongOf, countBelow, firstFrom}
 use Rattle.answer.specs.Bytes.{coefficientBytes, outputBytes, answerBytes, numeratorStart, overwritten}
 
 -- H1: one output, three rows, df 0, dg 0, E 1
@@ -18,22 +17,10 @@ h8 : Bounds
 h8 = record { prime = P7; outputs = 2; rows = 3; numerator = 1; denominator = 1; errors = 0 }
 
 -- H1: row 2 is wrong; 20000000 0001 0005, and what stands behind keeps its contents
-h1-word : wordOf 3 (λ r. eqb r 2) ≡ 536870912
-unfolding wordOf
-h1-word = refl
-
 h1-bytes : overwritten (answerBytes h1 536870912 (1 ∷ []) (λ i. 5 ∷ [])) (9 ∷ 9 ∷ 9 ∷ 9 ∷ 9 ∷ 9 ∷ 9 ∷ 9 ∷ 77 ∷ [])
     ≡ 32 ∷ 0 ∷ 0 ∷ 0 ∷ 0 ∷ 1 ∷ 0 ∷ 5 ∷ 77 ∷ []
 unfolding h1 coefficientBytes outputBytes
 h1-bytes = refl
-
-h1-count : wrongCountOf 536870912 ≡ 1
-unfolding countBelow
-h1-count = refl
-
-h1-first : firstWrongOf 536870912 ≡ 2
-unfolding firstFrom
-h1-first = refl
 
 -- H8: g = 1 + u, f1 = 1, f2 = u
 h8-bytes : answerBytes h8 0 (1 ∷ 1 ∷ []) (λ i. cond (eqb i 0) (1 ∷ 0 ∷ []) (0 ∷ 1 ∷ [])) ≡ 0 ∷ 0 ∷ 0 ∷ 0 ∷ 0 ∷ 1 ∷ 0 ∷ 1 ∷ 0 ∷ 1 ∷ 0 ∷ 0 ∷ 0 ∷ 0 ∷ 0 ∷ 1 ∷ []
@@ -51,8 +38,3 @@ h8-start = refl
 h8-storable : Storable h8
 unfolding h8
 h8-storable = record { few = lit≤ tt; denominator-low = lit≤ tt; numerators-low = λ i. lit≤ tt }
-
--- row 8 stands in the second byte
-row-8 : wordOf 9 (λ r. eqb r 8) ≡ 8388608
-unfolding wordOf
-row-8 = refl

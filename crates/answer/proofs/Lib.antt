@@ -1,5 +1,3 @@
-pub mod Words
-pub mod Marks
 pub mod Splices
 pub mod Lengths
 pub mod Runs

@@ -17,8 +17,8 @@ use Rattle.header.specs.Header.{boundsOf}
 use Rattle.row_search.specs.Search.{anyBelow, isFound}
 use Rattle.row_search.proofs.FirstBelow.{any-passes, none-below}
 use Rattle.job.proofs.Facts.{WellFormedFacts, well-formed-facts}
-use Rattle.answer.specs.Word.{flagOf, countBelow, bitAt}
-use Rattle.answer.proofs.Words.{bit-exactly}
+use Rattle.word.specs.Word.{flagOf, countBelow, bitAt}
+use Rattle.word.proofs.Words.{bit-exactly}
 use Rattle.recovery.specs.Answers.{primeOf, wrongAt, wrongCount, Within, Reduced, Answer}
 use Rattle.recovery.specs.Recovery.{Settled}
 use Rattle.enlargement.specs.Enlargement.{

@@ -31,9 +31,9 @@ use Rattle.job.specs.Refusals.{
   outcomeOfRows,
 }
 use Rattle.job.proofs.Facts.{well-formed-facts}
-use Rattle.answer.specs.Word.{wordOf}
+use Rattle.word.specs.Word.{wordOf}
 use Rattle.answer.specs.Bytes.{numeratorStart}
-use Rattle.answer.proofs.Words.{word-lt, word-same}
+use Rattle.word.proofs.Words.{word-lt, word-same}
 use Rattle.answer.proofs.Reading.{SixteenBits, read-word, read-denominator, read-numerator}
 use Rattle.recovery.specs.Answers.{primeOf, wrongAt, wrongCount, Within, Answer}
 use Rattle.recovery.specs.Recovery.{wordFor, recoveredOutcome, recoveredArea, RefusedEarly, Answered, RefusedUnsolvable, Settled}

@@ -14,8 +14,8 @@ use Rattle.field.specs.Primes.{modulusOf}
 use Rattle.poly.specs.Coefficients.{at, Bounded}
 use Rattle.header.specs.Header.{boundsOf}
 use Rattle.job.proofs.Facts.{WellFormedFacts, well-formed-facts}
-use Rattle.answer.specs.Word.{bitAt}
-use Rattle.answer.proofs.Words.{bit-exactly}
+use Rattle.word.specs.Word.{bitAt}
+use Rattle.word.proofs.Words.{bit-exactly}
 use Rattle.recovery.specs.Answers.{primeOf, wrongAt, wrongCount, Within, Reduced, Answer}
 use Rattle.recovery.specs.Recovery.{Settled}
 use Rattle.enlargement.specs.Enlargement.{AnsweredWith, Named, StandsAt, furtherRow, furtherWrong, MarkedAt, Enlarged, Comparable, EnlargementRule}

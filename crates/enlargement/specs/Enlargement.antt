@@ -15,7 +15,7 @@ use Rattle.poly.specs.Coefficients.{at}
 use Rattle.row_search.specs.Search.{anyBelow}
 use Rattle.header.specs.Header.{boundsOf}
 use Rattle.job.specs.Refusals.{WellFormed}
-use Rattle.answer.specs.Word.{bitAt, countBelow}
+use Rattle.word.specs.Word.{bitAt, countBelow}
 use Rattle.answer.specs.Bytes.{numeratorStart}
 use Rattle.recovery.specs.Answers.{Answer, wrongAt, wrongCount}
 use Rattle.recovery.specs.Recovery.{Settled}

@@ -53,7 +53,7 @@ use Rattle.row_search.specs.Search.{firstBelow}
 use Rattle.rows.specs.Rows.{numberAt, pointsOf, valuesOf}
 use Rattle.job.specs.Refusals.{outcomeOfRows, outcomeOf}
 use Rattle.judge.specs.Rows.{wrongRow}
-use Rattle.answer.specs.Word.{wordOf, countBelow}
+use Rattle.word.specs.Word.{wordOf, countBelow}
 use Rattle.answer.specs.Bytes.{coefficientBytes, outputBytes}
 use Rattle.format.specs.declared.Outcome.{Outcome}
 use Rattle.recovery.specs.Recovery.{Settled}

@@ -6,7 +6,7 @@ ghost use Rattle.field.specs.Primes.{modulusOf};
 ghost use Rattle.poly.specs.Coefficients.{Bounded};
 ghost use Rattle.poly.specs.Operations.{valueOf};
 ghost use Rattle.poly.specs.Vectors.{coefficientsAt};
-ghost use Rattle.answer.specs.Word.{wordOf};
+ghost use Rattle.word.specs.Word.{wordOf};
 ghost use Rattle.judge.specs.Rows.{wrongRowAt};
 ghost use Rattle.judge.specs.Answers.{Within};
 use field::Prime;
@@ -57,7 +57,7 @@ pub fn wrong_rows(b: Bounds, points: [u32; 32], values: [u32; 128], g: Poly, f: 
     let mut word: u32 = 0;
     for r in 0..rows {
         let wrong = row_is_wrong(b, points, values, g, f, r);
-        word = answer::with_row(word, r, wrong);
+        word = word::with_row(word, r, wrong);
     }
     word
 }

@@ -21,7 +21,7 @@ use Rattle.rows.specs.Rows.{pointOf, valueOf as valueAt, pointsOf, valuesOf}
 use Rattle.job.specs.Refusals.{WellFormed}
 use Rattle.rows.proofs.Entries.{points-at, values-at}
 use Rattle.job.proofs.Facts.{WellFormedFacts}
-use Rattle.answer.specs.Word.{flagOf, countBelow}
+use Rattle.word.specs.Word.{flagOf, countBelow}
 use Rattle.judge.specs.Rows.{wrongRow}
 use Rattle.judge.proofs.Rows.{right-all, all-right}
 use Rattle.soundness.proofs.Candidates.{P, R, F, poly, evaluation, problem}

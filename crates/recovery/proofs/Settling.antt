@@ -21,10 +21,10 @@ use Rattle.rows.proofs.Entries.{points-at, values-at}
 use Rattle.job.proofs.Facts.{WellFormedFacts, well-formed-facts}
 use Rattle.candidate.specs.declared.Candidate.{Candidate}
 use Rattle.candidate.specs.Candidates.{candidateAfter}
-use Rattle.answer.specs.Word.{wordOf, wrongCountOf, countBelow}
+use Rattle.word.specs.Word.{wordOf, wrongCountOf, countBelow}
 use Rattle.answer.specs.Bytes.{answerBytes, overwritten}
-use Rattle.answer.proofs.Words.{word-same}
-use Rattle.answer.proofs.Marks.{count-of-word}
+use Rattle.word.proofs.Words.{word-same}
+use Rattle.word.proofs.Marks.{count-of-word}
 use Rattle.judge.specs.Rows.{wrongRow, wrongRowAt}
 use Rattle.judge.proofs.Rows.{wrong-same}
 use Rattle.solver.specs.declared.Solution.{Solution}

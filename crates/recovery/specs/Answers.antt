@@ -10,7 +10,7 @@ use Rattle.poly.specs.Coefficients.{at, Bounded}
 use Rattle.poly.specs.Operations.{productAt}
 use Rattle.header.specs.Header.{boundsOf}
 use Rattle.rows.specs.Rows.{pointOf, valueOf}
-use Rattle.answer.specs.Word.{countBelow}
+use Rattle.word.specs.Word.{countBelow}
 use Rattle.judge.specs.Rows.{wrongRow}
 
 -- d divides a: modulo p, a is d times some polynomial e

@@ -10,7 +10,7 @@ use Rattle.format.specs.declared.Reason.the-variants.{NoAnswer}
 use Rattle.format.specs.Bounds.{answerLengthOf}
 use Rattle.header.specs.Header.{boundsOf}
 use Rattle.job.specs.Refusals.{outcomeOf, WellFormed}
-use Rattle.answer.specs.Word.{wordOf}
+use Rattle.word.specs.Word.{wordOf}
 use Rattle.answer.specs.Bytes.{answerBytes, overwritten}
 use Rattle.recovery.specs.Answers.{Answer, Unsolvable, wrongAt, wrongCount}
 

@@ -22,7 +22,7 @@ use Rattle.rows.specs.Rows.{pointOf, pointsOf, valuesOf}
 use Rattle.rows.proofs.Entries.{points-at}
 use Rattle.job.proofs.Facts.{WellFormedFacts, well-formed-facts}
 use Rattle.answer.specs.Bytes.{twoBytes, fourBytes, coefficientBytes, outputBytes, answerBytes, overwritten}
-use Rattle.answer.proofs.Words.{word-same}
+use Rattle.word.proofs.Words.{word-same}
 use Rattle.soundness.proofs.Candidates.{P, F, problem, ample, capacity}
 use Rattle.recovery.specs.Answers.{primeOf, wrongAt, wrongCount, Divides, LeadingOne, Reduced, Answer, Unsolvable}
 use Rattle.recovery.specs.Recovery.{wordFor, Answered, Settled}

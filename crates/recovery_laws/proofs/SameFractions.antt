@@ -13,7 +13,7 @@ use Rattle.poly_meaning.proofs.Series.{series-at}
 use Rattle.header.specs.Header.{boundsOf}
 use Rattle.rows.specs.Rows.{pointOf, valueOf, pointsOf, valuesOf}
 use Rattle.job.proofs.Facts.{WellFormedFacts}
-use Rattle.answer.specs.Word.{flagOf, countBelow}
+use Rattle.word.specs.Word.{flagOf, countBelow}
 use Rattle.judge.proofs.Rows.{wrong-same}
 use Rattle.soundness.proofs.Candidates.{P, F, poly, problem, ample, capacity}
 use Rattle.recovery.specs.Answers.{primeOf, wrongAt, wrongCount, Divides, Within, Answer}

@@ -17,7 +17,7 @@ use Rattle.interpolation.specs.Pairs.{choose}
 use Rattle.candidate.specs.declared.Candidate.{Candidate}
 use Rattle.candidate.specs.Candidates.{Sized, Fitting}
 use Rattle.candidate.proofs.Fittings.{numerator-low, denominator-low}
-use Rattle.answer.specs.Word.{wrongCountOf}
+use Rattle.word.specs.Word.{wrongCountOf}
 use Rattle.judge.specs.Answers.{Within}
 use Rattle.solver.specs.declared.Solution.{Solution}
 use Rattle.solver.specs.Solutions.{unsolvedSolution, wordBy, countedSolution, judgedSolution}

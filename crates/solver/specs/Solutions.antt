@@ -12,7 +12,7 @@ use Rattle.poly.specs.Vectors.{zeroPoly, coefficientsAt}
 use Rattle.interpolation.specs.Pairs.{choose}
 use Rattle.candidate.specs.declared.Candidate.{Candidate}
 use Rattle.candidate.specs.Candidates.{candidateAfter}
-use Rattle.answer.specs.Word.{wordOf, wrongCountOf}
+use Rattle.word.specs.Word.{wordOf, wrongCountOf}
 use Rattle.judge.specs.Rows.{wrongRowAt}
 use Rattle.solver.specs.declared.Solution.{Solution}
 

@@ -43,7 +43,7 @@ pub fn solve(b: Bounds, points: [u32; 32], values: [u32; 128]) -> Solution
     let g = c.g;
     let f = c.f;
     let word = judge::wrong_rows(b, points, values, g, f);
-    let wrong = answer::wrong_count(word);
+    let wrong = word::wrong_count(word);
     if b.errors < wrong as usize {
         return unsolved();
     }

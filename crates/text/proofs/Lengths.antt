@@ -9,7 +9,7 @@ use Rattle.format.specs.Numbers.{wordFrom}
 use Rattle.format.specs.declared.Bounds.{Bounds}
 use Rattle.format.specs.Bounds.{Storable, numeratorBoundOf}
 use Rattle.answer.specs.Bytes.{numeratorStart}
-use Rattle.answer.specs.Word.{marked}
+use Rattle.word.specs.Word.{marked}
 use Rattle.text.specs.Decimal.{decimalOf, itemOf}
 use Rattle.text.specs.Lines.{lineFeed, outputLabel, rowItems, coefficientFrom, degreeWithin, itemsBelow, coefficientsLine, outputLineFrom, outputLines}
 use Rattle.text.specs.Text.{recoveredLabel, wrongLabel, denominatorLabel, refusedLabel, recoveredText, refusedText}

@@ -9,9 +9,9 @@ use native.Mathlib.Omega.{arith}
 use lib.Dec.{eqb, lit≤}
 use lib.Count.{leading-top}
 use borrow.Author.Tests.{eq-eqb, ne-eqb}
-use Rattle.answer.specs.Word.{flagOf, bitAt, withRow, wordOf, firstFrom, marked, firstWrongOf}
-use Rattle.answer.proofs.Words.{word-same, bit-of-row}
-use Rattle.answer.proofs.Marks.{word-of-marks, leading-marked}
+use Rattle.word.specs.Word.{flagOf, bitAt, withRow, wordOf, firstFrom, marked, firstWrongOf}
+use Rattle.word.proofs.Words.{word-same, bit-of-row}
+use Rattle.word.proofs.Marks.{word-of-marks, leading-marked}
 use Rattle.text.specs.Decimal.{itemOf}
 use Rattle.text.specs.Lines.{rowItems}
 

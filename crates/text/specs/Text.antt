@@ -9,7 +9,7 @@ use Rattle.format.specs.declared.Bounds.{Bounds}
 use Rattle.format.specs.declared.Outcome.{Outcome}
 use Rattle.format.specs.declared.Outcome.the-variants.{Accepted, Recovered, Refused}
 use Rattle.format.specs.Outcomes.{numberOf}
-use Rattle.answer.specs.Word.{marked}
+use Rattle.word.specs.Word.{marked}
 use Rattle.answer.specs.Bytes.{overwritten}
 use Rattle.text.specs.declared.Written.{Written}
 use Rattle.text.specs.declared.Written.the-variants.{Bytes, TooShort, Malformed}

@@ -4,7 +4,7 @@ ghost use mathlib.Core.Path.{_≡_};
 ghost use lib.ListN.{getD};
 ghost use Rattle.format.specs.Numbers.{numberFrom, wordFrom};
 ghost use Rattle.format.specs.Bounds.{Storable};
-ghost use Rattle.answer.specs.Word.{marked};
+ghost use Rattle.word.specs.Word.{marked};
 ghost use Rattle.text.specs.Drafts.{held, extended};
 ghost use Rattle.text.specs.Lines.{rowItems, coefficientFrom, degreeWithin, itemsBelow, coefficientsLine, outputLineFrom, outputLines};
 use crate::draft::Draft;
@@ -54,7 +54,7 @@ pub fn put_rows(draft: Draft, word: u32) -> Draft
     let mut r = draft;
     let mut rest = word;
     while rest != 0 {
-        let row = answer::first_wrong(rest);
+        let row = word::first_wrong(rest);
         r = put_item(r, row);
         rest = without_row(rest, row);
     }

@@ -4,8 +4,8 @@ use Prim.Native.Nat.{_-_, _≤_}
 use native.Mathlib.Omega.{arith}
 use borrow.Author.Needs.{needs}
 use Rattle.poly.specs.Vectors.{coefficientsAt}
-use Rattle.answer.specs.Word.{wordOf}
-use Rattle.answer.proofs.Words.{next-row, row-room}
+use Rattle.word.specs.Word.{wordOf}
+use Rattle.word.proofs.Words.{next-row, row-room}
 use Rattle.judge.specs.Rows.{wrongRowAt}
 use Rattle.judge.proofs.wrong_rows.Statement.{statement}
 use Rattle.judge.proofs.wrong_rows.Tie as tie

@@ -2,7 +2,7 @@ use mathlib.Core.Path.{_≡_, ap, _∙_}
 use native.Mathlib.Omega.{arith}
 use borrow.Author.Tests.{not-true, not-false}
 use Rattle.solver.specs.Solutions.{wordBy, judgedSolution}
-use Rattle.answer.specs.Word.{wrongCountOf}
+use Rattle.word.specs.Word.{wrongCountOf}
 use Rattle.solver.proofs.SolutionLaws.{storable, fits-judge, short-answer, judged-unsolvable, judged-solvable, counted-many, counted-few}
 use borrow.Author.Needs.{needs}
 use Rattle.solver.proofs.solve.Statement.{statement}

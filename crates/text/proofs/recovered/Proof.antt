@@ -4,7 +4,7 @@ use mathlib.Core.List.{[], _++_}
 use native.Mathlib.Nat.{lt-suc-self}
 use lib.ListN.{length}
 use Rattle.format.specs.Numbers.{wordFrom}
-use Rattle.answer.specs.Word.{marked}
+use Rattle.word.specs.Word.{marked}
 use Rattle.text.specs.Drafts.{extended}
 use Rattle.text.specs.Decimal.{decimalOf}
 use Rattle.text.specs.Lines.{lineFeed, rowItems, coefficientFrom, coefficientsLine, outputLines}

@@ -3,7 +3,7 @@ use mathlib.Core.Path.{_≡_, refl, sym, ap, _∙_}
 use mathlib.Core.List.{[], _++_}
 use lib.Pow.{pow-pos}
 use lib.ListN.{length}
-use Rattle.answer.specs.Word.{marked}
+use Rattle.word.specs.Word.{marked}
 use Rattle.text.specs.Drafts.{held, extended}
 use Rattle.text.specs.Decimal.{itemOf}
 use Rattle.text.specs.Lines.{rowItems}

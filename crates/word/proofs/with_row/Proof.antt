@@ -3,8 +3,8 @@ use mathlib.Core.Path.{_≡_, ap}
 use native.Mathlib.Nat.{mod-eq-of-lt}
 use native.Mathlib.Omega.{arith}
 use borrow.Author.Needs.{needs}
-use Rattle.answer.proofs.with_row.Statement.{statement}
-use Rattle.answer.proofs.with_row.Tie as tie
+use Rattle.word.proofs.with_row.Statement.{statement}
+use Rattle.word.proofs.with_row.Tie as tie
 
 sub-result : tie.Need-sub-result
 sub-result c = search needs

@@ -1,6 +1,6 @@
-use Rattle.answer.proofs.Marks.{ones-marked}
-use Rattle.answer.proofs.wrong_count.Statement.{statement}
-use Rattle.answer.proofs.wrong_count.Tie as tie
+use Rattle.word.proofs.Marks.{ones-marked}
+use Rattle.word.proofs.wrong_count.Statement.{statement}
+use Rattle.word.proofs.wrong_count.Tie as tie
 
 returns : tie.Need-returns
 returns c = ones-marked (c .args .word) (c .fits .word .fits)

@@ -1,6 +1,6 @@
-use Rattle.answer.proofs.Marks.{leading-marked}
-use Rattle.answer.proofs.first_wrong.Statement.{statement}
-use Rattle.answer.proofs.first_wrong.Tie as tie
+use Rattle.word.proofs.Marks.{leading-marked}
+use Rattle.word.proofs.first_wrong.Statement.{statement}
+use Rattle.word.proofs.first_wrong.Tie as tie
 
 returns : tie.Need-returns
 returns c = leading-marked (c .args .word) (c .fits .word .fits)

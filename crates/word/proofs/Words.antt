@@ -10,7 +10,7 @@ use lib.Dec.{lit<, lit≤}
 use lib.Arith.{digits-div, digits-mod}
 use lib.Pow.{pow-pos, pow-add, shl-shr, shr-shr}
 use lib.Count.{ones, onesIn, ones-cat, leadingZeros, leading-of-zero, leading-unique}
-use Rattle.answer.specs.Word.{flagOf, bitAt, withRow, wordOf, countBelow, firstFrom, firstWrong}
+use Rattle.word.specs.Word.{flagOf, bitAt, withRow, wordOf, countBelow, firstFrom, firstWrong}
 
 -- the flags of rows 0 to n - 1 as a binary number, row n - 1 last: the word without the places behind them
 unfoldable pub prefixOf : (ℕ → Bool) → ℕ → ℕ

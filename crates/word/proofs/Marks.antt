@@ -7,8 +7,8 @@ use native.Mathlib.Omega.{arith}
 use lib.Dec.{lit<, lit≤, eqb}
 use lib.Pow.{shr-shr}
 use lib.Count.{ones, leadingZeros}
-use Rattle.answer.specs.Word.{flagOf, bitAt, wordOf, countBelow, firstWrong, marked, wrongCountOf, firstWrongOf}
-use Rattle.answer.proofs.Words.{prefixOf, word-lt, word-top, ones-word, leading-word}
+use Rattle.word.specs.Word.{flagOf, bitAt, wordOf, countBelow, firstWrong, marked, wrongCountOf, firstWrongOf}
+use Rattle.word.proofs.Words.{prefixOf, word-lt, word-top, ones-word, leading-word}
 
 -- the word's top k + 1 bits are its top k and the bit of row k
 next-bit : (word k : ℕ) → k < 32 → word / 2 ^ (32 - suc k) ≡ word / 2 ^ (32 - k) * 2 + bitAt word k
