@@ -18,21 +18,40 @@ pub fn path() -> PathBuf {
 
 /// The program's output for an input that comes in pieces, with a pause between them.
 pub fn run(pieces: &[&[u8]]) -> Result<Output, String> {
-    let program = path();
-    if !program.is_file() {
+    let mut child = start(&mut Command::new(path()))?;
+    send(&mut child, pieces)?;
+    wait(child)
+}
+
+/// The same where nobody reads: the output's other end is closed before the input comes.
+pub fn run_unread(input: &[u8]) -> Result<Output, String> {
+    let mut child = start(&mut Command::new(path()))?;
+    drop(child.stdout.take());
+    send(&mut child, &[input])?;
+    wait(child)
+}
+
+/// The same with a redirection in the shell's words, as `>&-` for an output that is closed.
+pub fn run_redirected(redirection: &str, input: &[u8]) -> Result<Output, String> {
+    let line = format!("exec \"$0\" {redirection}");
+    let mut child = start(Command::new("sh").arg("-c").arg(line).arg(path()))?;
+    send(&mut child, &[input])?;
+    wait(child)
+}
+
+fn start(command: &mut Command) -> Result<Child, String> {
+    if !path().is_file() {
         let command = "build it in the repository's root with `rt check recover`";
         return Err(format!(
             "target/bin/recover is missing: {command}, or leave it out by `--no-default-features`"
         ));
     }
-    let mut child = Command::new(program)
+    command
         .stdin(Stdio::piped())
         .stdout(Stdio::piped())
         .stderr(Stdio::piped())
         .spawn()
-        .map_err(|error| format!("the program does not start: {error}"))?;
-    send(&mut child, pieces)?;
-    wait(child)
+        .map_err(|error| format!("the program does not start: {error}"))
 }
 
 /// Writes the pieces and closes the input. A program that has read all it wants may close first.

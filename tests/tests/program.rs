@@ -4,8 +4,9 @@
 use outside_checks::hex;
 use outside_checks::jobs::{generate, Random};
 use outside_checks::paper::{EXAMPLES, H1_PRINTED, REFUSALS};
-use outside_checks::program::run;
+use outside_checks::program::{run, run_redirected, run_unread};
 use outside_checks::second::printed;
+use std::os::unix::process::ExitStatusExt;
 
 const SEED: u64 = 77;
 
@@ -51,6 +52,32 @@ fn generated_jobs() {
 #[test]
 fn no_input() {
     assert_eq!(compare(&[]), "refused 1 0\n");
+}
+
+/// An input that cannot be read at all is an empty one.
+#[test]
+fn closed_input() {
+    for redirection in ["<&-", "< /dev/null", "< /"] {
+        let output = run_redirected(redirection, &[]).unwrap_or_else(|message| panic!("{message}"));
+        assert!(output.status.success(), "{redirection}: {:?}", output.status);
+        assert_eq!(output.stdout, b"refused 1 0\n", "{redirection}");
+        assert!(output.stderr.is_empty(), "{redirection}");
+    }
+}
+
+/// The text has nowhere to go; the program ends all the same, and says nothing elsewhere.
+#[test]
+fn output_not_taken() {
+    let h1 = hex::bytes(EXAMPLES[0].job).expect("the paper's job");
+    for redirection in [">&-", "> /dev/full"] {
+        let output = run_redirected(redirection, &h1).unwrap_or_else(|message| panic!("{message}"));
+        assert!(output.status.success(), "{redirection}: {:?}", output.status);
+        assert!(output.stdout.is_empty() && output.stderr.is_empty(), "{redirection}");
+    }
+    // A pipe that nobody reads may end the program by SIGPIPE, as it does any other.
+    let output = run_unread(&h1).unwrap_or_else(|message| panic!("{message}"));
+    let ended = output.status.success() || output.status.signal() == Some(13);
+    assert!(ended && output.stderr.is_empty(), "{:?}", output.status);
 }
 
 #[test]
