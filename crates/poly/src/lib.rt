@@ -53,6 +53,7 @@ fn powers_of(q: Prime, x: u32) -> Powers
 }
 
 // Four steps of Horner's rule with one remainder: a remainder waits for the one before it, so fewer of them take less time.
+// The sum is below 2^40. With that written down, the compiler finds a shorter remainder by the prime.
 fn value_step(q: Prime, acc: u32, w: Powers, c0: u32, c1: u32, c2: u32, c3: u32) -> u32
     requires { ⌜ (acc < modulusOf q) × (w .x1 < modulusOf q) × (w .x2 < modulusOf q) × (w .x3 < modulusOf q) × (w .x4 < modulusOf q)
         × (c0 < modulusOf q) × (c1 < modulusOf q) × (c2 < modulusOf q) × (c3 < modulusOf q) ⌝ }
@@ -61,7 +62,8 @@ fn value_step(q: Prime, acc: u32, w: Powers, c0: u32, c1: u32, c2: u32, c3: u32)
     let low = c0 as u64 + w.x1 as u64 * c1 as u64;
     let middle = low + w.x2 as u64 * c2 as u64;
     let high = middle + w.x3 as u64 * c3 as u64;
-    field::reduce(q, high + w.x4 as u64 * acc as u64)
+    let sum = high + w.x4 as u64 * acc as u64;
+    field::reduce(q, sum % 1099511627776)
 }
 
 pub fn value(q: Prime, n: usize, a: Poly, x: u32) -> u32

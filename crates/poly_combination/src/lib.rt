@@ -8,12 +8,13 @@ ghost use Rattle.poly.specs.Operations.{combinationOf, timesLinearOf, scaledOf}
 use field::Prime;
 use poly::Poly;
 
-// One coefficient of d a + m b.
+// One coefficient of d a + m b. The sum is below 2^40. With that written down, the compiler finds a shorter remainder by the prime.
 fn combined(q: Prime, d: u32, x: u32, m: u32, y: u32) -> u32
     requires { ⌜ (d < modulusOf q) × (x < modulusOf q) × (m ≤ modulusOf q) × (y < modulusOf q) ⌝ }
     ensures { λ r. ⌜ r ≡ (d * x + m * y) % modulusOf q ⌝ }
 {
-    field::reduce(q, d as u64 * x as u64 + m as u64 * y as u64)
+    let sum = d as u64 * x as u64 + m as u64 * y as u64;
+    field::reduce(q, sum % 1099511627776)
 }
 
 // d0 a - d1 b

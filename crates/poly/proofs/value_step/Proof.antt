@@ -1,7 +1,8 @@
 -- The sum fits: each of its four products is below 2^32.
 use native.Mathlib.Omega.{arith}
-use native.Mathlib.Nat.{le-of-lt}
-use Prim.Native.Nat.{ℕ, _*_, _≤_, _<_}
+use native.Mathlib.Nat.{le-of-lt, mod-eq-of-lt}
+use mathlib.Core.Path.{_∙_, ap}
+use Prim.Native.Nat.{ℕ, _+_, _*_, _%_, _≤_, _<_}
 use borrow.Author.Needs.{needs}
 use Rattle.field.specs.declared.Prime.{Prime}
 use Rattle.field.specs.Primes.{modulusOf}
@@ -55,30 +56,31 @@ add-high c =
       g .pre .5,
     )
 
-cast-reduce : tie.Need-cast-reduce
-cast-reduce c = search needs
+cast-sum : tie.Need-cast-sum
+cast-sum c = search needs
 
-mul-reduce : tie.Need-mul-reduce
-mul-reduce c = let g = c .before .before .before .before in omega (arith, below (g .args .q) (g .pre .4) (g .pre .0))
+mul-sum : tie.Need-mul-sum
+mul-sum c = let g = c .before .before .before .before in omega (arith, below (g .args .q) (g .pre .4) (g .pre .0))
 
-add-reduce : tie.Need-add-reduce
-add-reduce c =
-    let g = c .before .before .before .before in
-    omega (
-      arith,
-      below (g .args .q) (g .pre .1) (g .pre .6),
-      below (g .args .q) (g .pre .2) (g .pre .7),
-      below (g .args .q) (g .pre .3) (g .pre .8),
-      below (g .args .q) (g .pre .4) (g .pre .0),
-      modulus-small (g .args .q),
-      g .pre .5,
-    )
+-- far below 2^40
+small : (S : tie.Start) → let g = S .args in
+    g .c0 + g .w .x1 * g .c1 + g .w .x2 * g .c2 + g .w .x3 * g .c3 + g .w .x4 * g .acc < 1099511627776
+small S =
+    let q = S .args .q in
+    let h = S .pre in
+    omega
+    (arith, below q (h .1) (h .6), below q (h .2) (h .7), below q (h .3) (h .8), below q (h .4) (h .0), modulus-small q, h .5)
+
+add-sum : tie.Need-add-sum
+add-sum c = omega (arith, small (c .before .before .before .before))
 
 reduce-requires : tie.Need-reduce-requires
 reduce-requires c κs = search needs
 
 returns : tie.Need-returns
-returns c = search needs
+returns c =
+    let S = c .before .before .before .before .before in
+    c .reduce .ensures ∙ ap (λ n. n % modulusOf (S .args .q)) (mod-eq-of-lt (small S))
 
 pub value-step-spec : {M : Type 1} → statement M
 value-step-spec =
@@ -93,8 +95,8 @@ value-step-spec =
     cast-high
     mul-high
     add-high
-    cast-reduce
-    mul-reduce
-    add-reduce
+    cast-sum
+    mul-sum
+    add-sum
     reduce-requires
     returns)
