@@ -49,7 +49,7 @@ reduced-term : (p s u c : ℕ) (t : ℕ) → s % p ≡ t % p → (s + u % p * c)
 reduced-term p s u c t e = same-sum p s t (u % p * c) (u * c) e (mod-mul u c p)
 
 -- four coefficients more, by the powers of x
-pub value-four : (p x : ℕ) (a : List ℕ) (i : ℕ) → i + 4 ≤ length a
+value-four : (p x : ℕ) (a : List ℕ) (i : ℕ) → i + 4 ≤ length a
     → (at a i + x % p * at a (i + 1) + x * x % p * at a (i + 2) + x * x * x % p * at a (i + 3)
     + x * x * x * x % p * valueOf p x (drop (i + 4) a)) % p
     ≡ valueOf p x (drop i a)
@@ -67,6 +67,13 @@ value-four p x a i l =
     ∙ unfold-step p (at a i) x (at a (i + 1)) x (v (i + 2)) two
     ∙ unfold-step p _ (x * x) (at a (i + 2)) x (v (i + 3)) three
     ∙ unfold-step p _ (x * x * x) (at a (i + 3)) x (v (i + 4)) four)
+
+-- the same for what the loop has: powers w1 to w4, the value v so far and the result r of a step
+pub value-step-is : (p x : ℕ) (a : List ℕ) (i : ℕ) {w1 w2 w3 w4 v r : ℕ}
+    → w1 ≡ x % p → w2 ≡ x * x % p → w3 ≡ x * x * x % p → w4 ≡ x * x * x * x % p → v ≡ valueOf p x (drop (i + 4) a)
+    → r ≡ (at a i + w1 * at a (i + 1) + w2 * at a (i + 2) + w3 * at a (i + 3) + w4 * v) % p
+    → i + 4 ≤ length a → r ≡ valueOf p x (drop i a)
+value-step-is p x a i e1 e2 e3 e4 ev er l = rw (er, e1, e2, e3, e4, ev) (value-four p x a i l)
 
 pub value-below : (p x : ℕ) (a : List ℕ) → 0 < p → valueOf p x a < p
 unfolding valueOf

@@ -7,7 +7,7 @@ use lib.ListN.{length, drop}
 use Rattle.field.specs.Primes.{modulusOf}
 use Rattle.field.proofs.Moduli.{modulus-positive, residue-below}
 use Rattle.poly.specs.Operations.{valueOf}
-use Rattle.poly.proofs.Values.{value-start, value-four}
+use Rattle.poly.proofs.Values.{value-start, value-step-is, value-below}
 use Rattle.poly.proofs.value.Statement.{statement}
 use Rattle.poly.proofs.value.Tie as tie
 
@@ -89,12 +89,9 @@ loop-again c =
     let j = head .loop .j in
     let next : 4 * j ≡ 4 * (j - 1) + 4 = omega arith in
     let value : head .loop .acc ≡ valueOf (modulusOf (g .q)) (g .x) (drop (4 * (j - 1) + 4) (g .t3 .c)) = rw next at (head .loop .inv .3) in
-    let result = c .value-step .ensures in (
-      omega arith,
-      head .loop .inv .1,
-      rw result (residue-below (g .q) _),
-      rw (result, w .0, w .1, w .2, w .3, value) (value-four (modulusOf (g .q)) (g .x) (g .t3 .c) (4 * (j - 1)) (omega arith)),
-    )
+    let result = c .value-step .ensures in
+    let is = value-step-is (modulusOf (g .q)) (g .x) (g .t3 .c) (4 * (j - 1)) (w .0) (w .1) (w .2) (w .3) value result (omega arith) in
+    (omega arith, head .loop .inv .1, rw is (value-below (modulusOf (g .q)) (g .x) _ (modulus-positive (g .q))), is)
 
 returns : tie.Need-returns Inv-loop μ-loop
 returns c =
