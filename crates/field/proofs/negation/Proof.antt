@@ -1,4 +1,7 @@
+use mathlib.Core.Path.{ap₂, _∙_}
+use Prim.Native.Nat.{_-_, _%_}
 use native.Mathlib.Omega.{arith}
+use Rattle.field.specs.Primes.{modulusOf}
 use Rattle.field.proofs.Moduli.{residue-below}
 use borrow.Author.Needs.{needs}
 use Rattle.field.proofs.negation.Statement.{statement}
@@ -20,7 +23,9 @@ reduce-requires-2 : tie.Need-reduce-requires-2
 reduce-requires-2 c κs = search needs
 
 returns : tie.Need-returns
-returns c = cc
+returns c =
+    let p = modulusOf (c .before .before .before .args .q) in
+    c .reduce2 .ensures ∙ ap₂ (λ m r. (m - r) % p) (c .before .before .modulus .ensures) (c .before .reduce .ensures)
 
 pub negation-spec : {M : Type 1} → statement M
 negation-spec =

@@ -1,5 +1,5 @@
-use Prim.Native.Nat.{ℕ, _*_, _-_, _≤_, _<_}
-use mathlib.Core.Path.{_≡_, sym, subst}
+use Prim.Native.Nat.{ℕ, _+_, _*_, _-_, _%_, _≤_, _<_}
+use mathlib.Core.Path.{_≡_, sym, subst, _∙_}
 use native.Mathlib.Omega.{arith}
 use Rattle.interpolation.specs.Pairs.{discrepancyOf}
 use Rattle.poly.proofs.Bounds.{small-product}
@@ -42,12 +42,18 @@ add-reduce c = omega (arith, bound c)
 reduce-requires : tie.Need-reduce-requires
 reduce-requires c κs = search needs
 
+sum-is : (p z : ℕ) {l l′ m m′ r r′ : ℕ} → l ≡ l′ → m ≡ m′ → r ≡ r′ → (l + (m - z) * r) % p ≡ (l′ + (m′ - z) * r′) % p
+sum-is p z el em er = rw (el, em, er)
+
 returns : tie.Need-returns
 unfolding discrepancyOf
 returns c =
     let g = c .before .before .before .before .before .before .args in
-    let value : c .reduce .result ≡ discrepancyOf (modulusOf (g .q)) (g .x) (g .z) (g .s) = cc in
-    (value, subst (λ (r : ℕ). r < modulusOf (g .q)) (sym (c .reduce .ensures)) (residue-below (g .q) _))
+    let p = modulusOf (g .q) in
+    let left = c .before .before .before .value .ensures .0 in
+    let right = c .before .before .value2 .ensures .0 in
+    let value = c .reduce .ensures ∙ sum-is p (g .z) left (c .before .modulus .ensures) right in
+    (value, subst (λ (r : ℕ). r < p) (sym (c .reduce .ensures)) (residue-below (g .q) _))
 
 pub discrepancy-spec : {M : Type 1} → statement M
 discrepancy-spec =
