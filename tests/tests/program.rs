@@ -59,7 +59,11 @@ fn no_input() {
 fn closed_input() {
     for redirection in ["<&-", "< /dev/null", "< /"] {
         let output = run_redirected(redirection, &[]).unwrap_or_else(|message| panic!("{message}"));
-        assert!(output.status.success(), "{redirection}: {:?}", output.status);
+        assert!(
+            output.status.success(),
+            "{redirection}: {:?}",
+            output.status
+        );
         assert_eq!(output.stdout, b"refused 1 0\n", "{redirection}");
         assert!(output.stderr.is_empty(), "{redirection}");
     }
@@ -71,8 +75,15 @@ fn output_not_taken() {
     let h1 = hex::bytes(EXAMPLES[0].job).expect("the paper's job");
     for redirection in [">&-", "> /dev/full"] {
         let output = run_redirected(redirection, &h1).unwrap_or_else(|message| panic!("{message}"));
-        assert!(output.status.success(), "{redirection}: {:?}", output.status);
-        assert!(output.stdout.is_empty() && output.stderr.is_empty(), "{redirection}");
+        assert!(
+            output.status.success(),
+            "{redirection}: {:?}",
+            output.status
+        );
+        assert!(
+            output.stdout.is_empty() && output.stderr.is_empty(),
+            "{redirection}"
+        );
     }
     // A pipe that nobody reads may end the program by SIGPIPE, as it does any other.
     let output = run_unread(&h1).unwrap_or_else(|message| panic!("{message}"));

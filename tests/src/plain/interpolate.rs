@@ -33,8 +33,14 @@ pub fn interpolate<const PRIME: u32>(
         denominator: one,
         weight: numerator_bound,
     };
-    for (seen, (&point, &target)) in points.iter().zip(targets).enumerate() {
-        take_row::<PRIME>(&mut first, &mut second, point, target, seen + 1);
+    // The loops over coefficients follow the longest polynomial, as the library's do.
+    let mut length = 1;
+    for (&point, &target) in points.iter().zip(targets) {
+        take_row::<PRIME>(&mut first, &mut second, point, target, length);
+        length += 1;
+        while first.is_zero_at(length - 1) && second.is_zero_at(length - 1) {
+            length -= 1;
+        }
     }
     let chosen = if first.weight <= second.weight {
         first
@@ -74,6 +80,10 @@ fn take_row<const PRIME: u32>(
 }
 
 impl Pair {
+    fn is_zero_at(&self, power: usize) -> bool {
+        self.numerator[power] == 0 && self.denominator[power] == 0
+    }
+
     /// a(x) − z b(x), zero where the pair satisfies the row.
     fn defect<const PRIME: u32>(&self, point: u32, target: u32, length: usize) -> u32 {
         let mut numerator = 0;
