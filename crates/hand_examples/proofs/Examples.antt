@@ -34,19 +34,9 @@ use Rattle.euclid.specs.Division.{
 use Rattle.euclid.specs.Euclid.{gcdFrom, gcdOf}
 use Rattle.fraction.specs.LowestTerms.{unitOf, numeratorOf, denominatorOf}
 use Rattle.interpolation.specs.Pairs.{discrepancyOf, advancedOf, combinedOf, stepBy, startOf, pairsAfter, smallerOf}
-use Rattle.candidate.specs.Candidates.{
-  unsolvableCandidate,
-  startCandidate,
-  columnAt,
-  columnOf,
-  raisedAt,
-  raisedBelow,
-  withOutput,
-  extendedOf,
-  withFraction,
-  nextOf,
-  candidateAfter,
-}
+use Rattle.column.specs.Columns.{columnAt, columnOf}
+use Rattle.extension.specs.Extensions.{unsolvableCandidate, raisedAt, raisedBelow, withOutput, extendedOf}
+use Rattle.candidate.specs.Candidates.{startCandidate, withFraction, nextOf, candidateAfter}
 use Rattle.cursor.specs.Bits.{headerOf}
 use Rattle.header.specs.Header.{boundsOf, spareBitOf}
 use Rattle.row_search.specs.Search.{firstBelow}

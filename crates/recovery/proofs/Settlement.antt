@@ -3,24 +3,26 @@ use mathlib.Core.Path.{_≡_, refl, sym, _∙_, ap, subst}
 use mathlib.Core.Logic.{_≢_, inl, inr}
 use mathlib.Core.Bool.{Bool, true, false, cond}
 use mathlib.Core.List.{List}
-use Prim.Native.Nat.{ℕ, _+_, _*_, _/_, _%_, _≤_, _<_}
+use Prim.Native.Nat.{ℕ, _≤_, _<_}
 use native.Mathlib.Decide.{decLt}
 use native.Mathlib.Omega.{arith}
 use lib.Dec.{ltb}
 use lib.ListN.{length}
-use borrow.Author.Tests.{le-ltb, lt-ltb}
+use borrow.Author.Tests.{le-ltb}
 use Rattle.method.proofs.Problem.{None, Answer as MethodAnswer}
 use Rattle.method.proofs.Decision.{candidate-is-answer, none-if-many-wrong, unique}
 use Rattle.format.specs.Bounds.{numeratorBoundOf}
 use Rattle.poly.specs.Coefficients.{at, Bounded}
 use Rattle.poly.proofs.Lists.{at-past, at-tabulate, length-tabulate}
 use Rattle.header.specs.Header.{boundsOf}
-use Rattle.rows.specs.Rows.{pointOf, valueOf, valueOrZero, pointsOf, valuesOf}
+use Rattle.rows.specs.Rows.{pointOf, pointsOf, valuesOf}
 use Rattle.job.specs.Refusals.{WellFormed}
-use Rattle.rows.proofs.Entries.{points-at, values-at}
+use Rattle.rows.proofs.Entries.{points-at}
 use Rattle.job.proofs.Facts.{WellFormedFacts, well-formed-facts}
-use Rattle.candidate.specs.declared.Candidate.{Candidate}
-use Rattle.candidate.specs.Candidates.{Sized, Table, numeratorAt, candidateAfter}
+use Rattle.column.specs.Sizes.{Sized}
+use Rattle.extension.specs.declared.Candidate.{Candidate}
+use Rattle.extension.specs.Extensions.{numeratorAt}
+use Rattle.candidate.specs.Candidates.{Table, candidateAfter}
 use Rattle.soundness.proofs.Candidates.{P, R, F, poly, problem, Usable, Good, Verdict, ample, capacity}
 use Rattle.soundness.proofs.Verdicts.{verdict}
 use Rattle.recovery.specs.Answers.{primeOf, wrongCount, Within, Answer, Unsolvable}
@@ -30,7 +32,7 @@ module _ (s : List ℕ) {area : ℕ} (W : WellFormedFacts s area) where
   positive : 0 < primeOf s
   positive = let two = P (boundsOf s) .two in omega arith
 
-  -- the arrays hold residues, and 0 at places that are no rows or outputs
+  -- the array of points holds residues, and 0 at places that are no rows
   points-below : (r : ℕ) → at (pointsOf s) r < primeOf s
   unfolding pointsOf
   points-below r = by (decLt r 32) (decLt r (boundsOf s .rows))
@@ -47,33 +49,6 @@ module _ (s : List ℕ) {area : ℕ} (W : WellFormedFacts s area) where
           let h = positive in
           omega arith
 
-  values-below : (k : ℕ) → at (valuesOf s) k < primeOf s
-  unfolding valuesOf
-  values-below k = by (decLt k 128) (decLt (k / 4) (boundsOf s .rows)) (decLt (k % 4) (boundsOf s .outputs))
-    where
-      entry : ℕ → ℕ
-      entry k = cond (ltb (k / 4) (boundsOf s .rows)) (valueOrZero s (k / 4) (k % 4)) 0
-
-      by : Dec (k < 128) → Dec (k / 4 < boundsOf s .rows) → Dec (k % 4 < boundsOf s .outputs) → at (valuesOf s) k < primeOf s
-      by (no large) d e =
-          let e = at-past (valuesOf s) k (let n = length-tabulate 128 entry in omega arith) in
-          let h = positive in
-          omega arith
-      by (yes small) (no none) e =
-          let past : boundsOf s .rows ≤ k / 4 = omega arith in
-          let e : at (valuesOf s) k ≡ 0 = at-tabulate 128 entry k small ∙ rw (le-ltb (k / 4) (boundsOf s .rows) past) in
-          let h = positive in
-          omega arith
-      by (yes small) (yes is-row) (no none) =
-          let past : boundsOf s .outputs ≤ k % 4 = omega arith in
-          let e : at (valuesOf s) k ≡ 0 = at-tabulate 128 entry k small ∙ rw (lt-ltb (k / 4) (boundsOf s .rows) is-row, le-ltb (k % 4) (boundsOf s .outputs) past) in
-          let h = positive in
-          omega arith
-      by (yes small) (yes is-row) (yes is-output) =
-          let e : at (valuesOf s) k ≡ valueOf s (k / 4) (k % 4) =
-          at-tabulate 128 entry k small ∙ rw (lt-ltb (k / 4) (boundsOf s .rows) is-row, lt-ltb (k % 4) (boundsOf s .outputs) is-output) in
-          subst (λ t. t < primeOf s) (sym e) (W .values-in-range (k / 4) (k % 4) is-row is-output)
-
   pub sized : Sized (boundsOf s)
   sized = record {
     outputs = W .fields .outputs-most;
@@ -81,10 +56,10 @@ module _ (s : List ℕ) {area : ℕ} (W : WellFormedFacts s area) where
     enough = λ i. W .enough-rows;
   }
 
-  pub table : Table (boundsOf s) (pointsOf s) (valuesOf s)
-  table = record { points-below = points-below; values-below = values-below }
+  pub table : Table (boundsOf s) (pointsOf s)
+  table = record { points-below = points-below }
 
-  pub usable : Usable (boundsOf s) (pointsOf s) (valuesOf s)
+  pub usable : Usable (boundsOf s) (pointsOf s)
   usable = record {
     sized = sized;
     table = table;

@@ -19,8 +19,6 @@ use Rattle.job.specs.Refusals.{outcomeOf, WellFormed}
 use Rattle.job.specs.Answer.{readingWith, readingOf}
 use Rattle.rows.proofs.Entries.{points-at, values-at}
 use Rattle.job.proofs.Facts.{WellFormedFacts, well-formed-facts}
-use Rattle.candidate.specs.declared.Candidate.{Candidate}
-use Rattle.candidate.specs.Candidates.{candidateAfter}
 use Rattle.word.specs.Word.{wordOf, wrongCountOf, countBelow}
 use Rattle.answer.specs.Bytes.{answerBytes, overwritten}
 use Rattle.word.proofs.Words.{word-same}

@@ -14,9 +14,10 @@ use Rattle.format.specs.Bounds.{Storable, answerLengthOf}
 use Rattle.poly.specs.declared.Poly.{Poly}
 use Rattle.poly.specs.Vectors.{zeroPoly}
 use Rattle.interpolation.specs.Pairs.{choose}
-use Rattle.candidate.specs.declared.Candidate.{Candidate}
-use Rattle.candidate.specs.Candidates.{Sized, Fitting}
-use Rattle.candidate.proofs.Fittings.{numerator-low, denominator-low}
+use Rattle.column.specs.Sizes.{Sized}
+use Rattle.column.proofs.Sizes.{numerator-low, denominator-low}
+use Rattle.extension.specs.declared.Candidate.{Candidate}
+use Rattle.extension.specs.Extensions.{Fitting}
 use Rattle.word.specs.Word.{wrongCountOf}
 use Rattle.judge.specs.Answers.{Within}
 use Rattle.solver.specs.declared.Solution.{Solution}

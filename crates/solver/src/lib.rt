@@ -1,6 +1,7 @@
 // The solver: from the table of a job's rows, the vector for which at most E rows are wrong, or refusal 8.
 ghost use mathlib.Core.Path.{_≡_};
-ghost use Rattle.candidate.specs.Candidates.{Sized, Table};
+ghost use Rattle.column.specs.Sizes.{Sized};
+ghost use Rattle.candidate.specs.Candidates.{Table};
 ghost use Rattle.solver.specs.Solutions.{unsolvedSolution, solutionFor};
 use format::Bounds;
 use format::Outcome;
@@ -33,7 +34,7 @@ fn unsolved() -> Solution
 
 // The candidate of all outputs, if at most E rows are wrong for it.
 pub fn solve(b: Bounds, points: [u32; 32], values: [u32; 128]) -> Solution
-    requires { ⌜ Sized b × Table b points values ⌝ }
+    requires { ⌜ Sized b × Table b points ⌝ }
     ensures { λ r. ⌜ r ≡ solutionFor b points values ⌝ }
 {
     let c = candidate::after_outputs(b, points, values);

@@ -42,23 +42,14 @@ use Rattle.poly_meaning.proofs.Series.{series, series-below, constant-means}
 use Rattle.poly_meaning.proofs.Products.{product-means}
 use Rattle.poly_meaning.proofs.Degrees.{length-means, degree-length, below-bounded}
 use Rattle.interpolation.specs.Pairs.{choose}
-use Rattle.candidate.specs.declared.Candidate.{Candidate}
-use Rattle.candidate.specs.Candidates.{
-  Sized,
-  Table,
-  Fitting,
-  primeOf,
-  numeratorAt,
-  unsolvableCandidate,
-  startCandidate,
-  raisedAt,
-  raisedBelow,
-  withOutput,
-  extendedOf,
-  slackOf,
-}
-use Rattle.candidate.proofs.Fittings.{numerator-low, denominator-low, bounded-raised, set-same, set-other, fitting-start, fitting-set}
-use Rattle.candidate.proofs.CandidateLaws.{raised-too-long, raised-fits}
+use Rattle.column.specs.Sizes.{Sized, primeOf}
+use Rattle.column.proofs.Sizes.{numerator-low, denominator-low}
+use Rattle.extension.specs.declared.Candidate.{Candidate}
+use Rattle.extension.specs.Extensions.{Fitting, numeratorAt, unsolvableCandidate, raisedAt, raisedBelow, withOutput, extendedOf}
+use Rattle.extension.proofs.Fittings.{bounded-raised, set-same, set-other, fitting-set}
+use Rattle.extension.proofs.ExtensionLaws.{raised-too-long, raised-fits}
+use Rattle.candidate.specs.Candidates.{Table, startCandidate, slackOf}
+use Rattle.candidate.proofs.CandidateLaws.{fitting-start}
 
 -- the problem of a table of rows, over the residues modulo its prime
 module _ (b : Bounds) where
@@ -94,12 +85,12 @@ module _ (b : Bounds) where
       }
 
 -- what the rows keep to: sizes, residues, and distinct points
-pub record Usable (b : Bounds) (points values : List ℕ) : Type 0 where
+pub record Usable (b : Bounds) (points : List ℕ) : Type 0 where
   pub sized : Sized b
-  pub table : Table b points values
+  pub table : Table b points
   pub distinct : (i j : ℕ) → i < j → j < b .rows → at points i ≢ at points j
 
-module _ (b : Bounds) (points values : List ℕ) (U : Usable b points values) where
+module _ (b : Bounds) (points values : List ℕ) (U : Usable b points) where
   abbrev p : ℕ
   p = primeOf b
 

@@ -21,16 +21,18 @@ use Rattle.poly_meaning.proofs.Degrees.{length-means-null}
 use Rattle.interpolation.specs.declared.Pair.{Pair}
 use Rattle.interpolation.specs.Pairs.{PairBounded, choose, solutionOf}
 use Rattle.euclid.proofs.Leading.{Stored}
-use Rattle.candidate.specs.declared.Candidate.{Candidate}
-use Rattle.candidate.specs.Candidates.{primeOf, columnOf, withFraction, slackOf, nextOf, candidateAfter}
-use Rattle.candidate.proofs.Columns.{column-is, bounded-column}
-use Rattle.candidate.proofs.Fittings.{denominator-low}
+use Rattle.column.specs.Sizes.{primeOf}
+use Rattle.column.specs.Columns.{columnOf}
+use Rattle.column.proofs.Sizes.{denominator-low}
+use Rattle.column.proofs.Columns.{column-is, bounded-column}
+use Rattle.extension.specs.declared.Candidate.{Candidate}
+use Rattle.candidate.specs.Candidates.{withFraction, slackOf, nextOf, candidateAfter}
 use Rattle.soundness.proofs.Interpolation.{solution-means}
 use Rattle.soundness.proofs.Sizes.{whole-solution}
 use Rattle.soundness.proofs.Fraction.{fraction-means}
 use Rattle.soundness.proofs.Candidates.{P, R, F, poly, evaluation, problem, Usable, ample, capacity, Good, Verdict, no-answer, start-verdict, extended-verdict}
 
-module _ (b : Bounds) (points values : List ℕ) (U : Usable b points values) where
+module _ (b : Bounds) (points values : List ℕ) (U : Usable b points) where
   abbrev p : ℕ
   p = primeOf b
 

@@ -3,9 +3,9 @@ use mathlib.Core.Logic.{⊎-elim}
 use Prim.Native.Nat.{_-_, _≤_}
 use native.Mathlib.Omega.{arith}
 use borrow.Author.Needs.{needs}
-use Rattle.candidate.specs.Candidates.{candidateAfter, Fitting}
-use Rattle.candidate.proofs.Fittings.{fitting-start}
-use Rattle.candidate.proofs.CandidateLaws.{after-none, after-more, after-stays}
+use Rattle.extension.specs.Extensions.{Fitting}
+use Rattle.candidate.specs.Candidates.{candidateAfter}
+use Rattle.candidate.proofs.CandidateLaws.{fitting-start, after-none, after-more, after-stays}
 use Rattle.candidate.proofs.after_outputs.Statement.{statement}
 use Rattle.candidate.proofs.after_outputs.Tie as tie
 

@@ -8,9 +8,11 @@ use Rattle.poly.specs.Coefficients.{Bounded}
 use Rattle.poly.proofs.Lists.{bounded-mono}
 use Rattle.interpolation.specs.declared.Pair.{Pair}
 use Rattle.interpolation.specs.Pairs.{solutionOf}
-use Rattle.candidate.specs.Candidates.{columnOf, slackOf, withFraction, nextOf}
-use Rattle.candidate.proofs.Columns.{bounded-column}
-use Rattle.candidate.proofs.Fittings.{slack-low, fitting-unsolvable}
+use Rattle.column.specs.Columns.{columnOf}
+use Rattle.column.proofs.Sizes.{slack-low}
+use Rattle.column.proofs.Columns.{bounded-column}
+use Rattle.extension.proofs.Fittings.{fitting-unsolvable}
+use Rattle.candidate.specs.Candidates.{slackOf, withFraction, nextOf}
 use Rattle.candidate.proofs.CandidateLaws.{fraction-none, fraction-some}
 use borrow.Author.Needs.{needs}
 use Rattle.candidate.proofs.next.Statement.{statement}

@@ -13,7 +13,8 @@ use Rattle.job.specs.Refusals.{WellFormed}
 use Rattle.job.proofs.Facts.{well-formed-facts}
 use Rattle.poly.specs.Vectors.{coefficientsAt}
 use Rattle.answer.specs.Bytes.{answerBytes, overwritten}
-use Rattle.candidate.specs.Candidates.{Sized, Table}
+use Rattle.column.specs.Sizes.{Sized}
+use Rattle.candidate.specs.Candidates.{Table}
 use Rattle.solver.specs.Solutions.{solutionFor}
 use Rattle.recovery.proofs.Settlement.{sized, table}
 use Rattle.solver.proofs.SolutionLaws.{storable}
@@ -61,7 +62,7 @@ solve-requires : tie.Need-solve-requires
 solve-requires c κs =
     let d = c .before .before .before in
     let W = well-formed-facts (job (here d)) (length (area (here d))) (well-formed d) in
-    subst (λ (r : Reading). Sized (r .bounds) × Table (r .bounds) (r .points) (r .values)) (sym (accepted d)) (sized (job (here d)) W, table (job (here d)) W)
+    subst (λ (r : Reading). Sized (r .bounds) × Table (r .bounds) (r .points)) (sym (accepted d)) (sized (job (here d)) W, table (job (here d)) W)
 
 enum-told-2 : tie.Need-enum-told-2
 enum-told-2 c = search needs

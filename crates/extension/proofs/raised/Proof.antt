@@ -2,10 +2,10 @@ use mathlib.Core.Path.{_≡_, ap, _∙_}
 use mathlib.Core.Logic.{⊎-elim}
 use Prim.Native.Nat.{ℕ, _-_, _≤_}
 use native.Mathlib.Omega.{arith}
-use Rattle.candidate.specs.Candidates.{raisedBelow, Fitting}
-use Rattle.candidate.proofs.CandidateLaws.{raised-none, raised-more, raised-stays}
-use Rattle.candidate.proofs.raised.Statement.{statement}
-use Rattle.candidate.proofs.raised.Tie as tie
+use Rattle.extension.specs.Extensions.{raisedBelow, Fitting}
+use Rattle.extension.proofs.ExtensionLaws.{raised-none, raised-more, raised-stays}
+use Rattle.extension.proofs.raised.Statement.{statement}
+use Rattle.extension.proofs.raised.Tie as tie
 
 abbrev Inv-loop : tie.InvT-loop
 Inv-loop b i h lh r₀ j₀ r j = (j ≤ i) × (r ≡ raisedBelow b (h .c) j r₀) × Fitting b r

@@ -4,11 +4,11 @@ use native.Mathlib.Omega.{arith}
 use borrow.Author.Needs.{needs}
 use Rattle.field.specs.Primes.{modulusOf}
 use Rattle.poly.proofs.Lists.{Filled, filled-none, filled-more, filled-all}
-use Rattle.candidate.specs.Candidates.{columnAt, columnOf}
-use Rattle.candidate.proofs.Columns.{column-is, column-past}
-use Rattle.candidate.proofs.Fittings.{denominator-low}
-use Rattle.candidate.proofs.column.Statement.{statement}
-use Rattle.candidate.proofs.column.Tie as tie
+use Rattle.column.specs.Columns.{columnAt, columnOf}
+use Rattle.column.proofs.Columns.{column-is, column-past}
+use Rattle.column.proofs.Sizes.{denominator-low}
+use Rattle.column.proofs.column.Statement.{statement}
+use Rattle.column.proofs.column.Tie as tie
 
 abbrev Inv-loop : tie.InvT-loop
 Inv-loop i g points values prime n rows r₀ l₀ r l =

@@ -3,11 +3,12 @@ use native.Mathlib.Omega.{arith}
 use borrow.Author.Needs.{needs}
 use Rattle.poly.proofs.Lists.{bounded-mono}
 use Rattle.poly.proofs.Lengths.{bounded-length}
-use Rattle.candidate.specs.Candidates.{withOutput, extendedOf}
-use Rattle.candidate.proofs.Fittings.{numerator-low, denominator-low, fitting-unsolvable, fitting-set}
-use Rattle.candidate.proofs.CandidateLaws.{output-added, output-left, denominator-too-long, numerator-too-long, extended-is}
-use Rattle.candidate.proofs.extended.Statement.{statement}
-use Rattle.candidate.proofs.extended.Tie as tie
+use Rattle.extension.specs.Extensions.{withOutput, extendedOf}
+use Rattle.column.proofs.Sizes.{numerator-low, denominator-low}
+use Rattle.extension.proofs.Fittings.{fitting-unsolvable, fitting-set}
+use Rattle.extension.proofs.ExtensionLaws.{output-added, output-left, denominator-too-long, numerator-too-long, extended-is}
+use Rattle.extension.proofs.extended.Statement.{statement}
+use Rattle.extension.proofs.extended.Tie as tie
 
 add-length : tie.Need-add-length
 add-length c = omega (arith, denominator-low (c .before .pre .0))

@@ -5,10 +5,11 @@ use native.Mathlib.Omega.{arith}
 use Rattle.field.proofs.Moduli.{modulus-positive}
 use Rattle.poly.proofs.Lengths.{bounded-length}
 use borrow.Author.Needs.{needs}
-use Rattle.candidate.proofs.Fittings.{numerator-low, bounded-raised, fitting-unsolvable, fitting-set}
-use Rattle.candidate.proofs.CandidateLaws.{raised-too-long, raised-fits}
-use Rattle.candidate.proofs.raised_at.Statement.{statement}
-use Rattle.candidate.proofs.raised_at.Tie as tie
+use Rattle.column.proofs.Sizes.{numerator-low}
+use Rattle.extension.proofs.Fittings.{bounded-raised, fitting-unsolvable, fitting-set}
+use Rattle.extension.proofs.ExtensionLaws.{raised-too-long, raised-fits}
+use Rattle.extension.proofs.raised_at.Statement.{statement}
+use Rattle.extension.proofs.raised_at.Tie as tie
 
 -- after the tests the product keeps to the bound, where the numerator is not zero
 short : (J : tie.Joined1) → let A = J .before in 0 < A .length .result

@@ -1,8 +1,8 @@
-use Rattle.candidate.specs.Candidates.{unsolvableCandidate}
-use Rattle.candidate.proofs.CandidateLaws.{candidate-is}
+use Rattle.extension.specs.Extensions.{unsolvableCandidate}
+use Rattle.extension.proofs.ExtensionLaws.{candidate-is}
 use borrow.Author.Needs.{needs}
-use Rattle.candidate.proofs.unsolvable.Statement.{statement}
-use Rattle.candidate.proofs.unsolvable.Tie as tie
+use Rattle.extension.proofs.unsolvable.Statement.{statement}
+use Rattle.extension.proofs.unsolvable.Tie as tie
 
 zero-requires : tie.Need-zero-requires
 zero-requires c κs = search needs

@@ -9,7 +9,7 @@ use borrow.Author.Tests.{lt-ltb, le-ltb}
 use Rattle.poly.specs.Coefficients.{at, tabulate, Bounded}
 use Rattle.poly.specs.Operations.{valueOf}
 use Rattle.poly.proofs.Lists.{bounded-tabulate}
-use Rattle.candidate.specs.Candidates.{columnAt}
+use Rattle.column.specs.Columns.{columnAt}
 
 -- the column, at a row and past the rows
 module _ (p rows : ℕ) (points values : List ℕ) (i : ℕ) (g : List ℕ) where

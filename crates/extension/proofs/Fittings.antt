@@ -1,36 +1,26 @@
 -- Polynomials that keep to the bounds of a job, in candidates and in products.
 use mathlib.Core.Path.{_≡_, refl, sym, ap, subst, _∙_}
-use mathlib.Core.Bool.{Bool, true, false}
+use mathlib.Core.Bool.{Bool, false}
 use mathlib.Core.List.{List, []}
-use Prim.Native.Nat.{ℕ, zero, suc, _+_, _*_, _≤_, _<_}
+use Prim.Native.Nat.{ℕ, zero, suc, _+_, _≤_, _<_}
 use native.Mathlib.Nat.{mod-lt}
 use native.Mathlib.Decide.{ℕ-discrete}
 use native.Mathlib.Omega.{arith}
 use lib.ListN.{length, set, replicate, length-set}
 use lib.Seq.{getD-set-same, getD-set-other}
-use Rattle.field.proofs.Moduli.{modulus-prime, modulus-positive}
+use Rattle.field.proofs.Moduli.{modulus-positive}
 use Rattle.format.specs.declared.Bounds.{Bounds}
 use Rattle.format.specs.Bounds.{numeratorBoundOf}
 use Rattle.poly.specs.declared.Poly.{Poly}
 use Rattle.poly.specs.Coefficients.{Bounded}
-use Rattle.poly.specs.Vectors.{onePoly, zeroPoly, coefficientsAt}
+use Rattle.poly.specs.Vectors.{zeroPoly, coefficientsAt}
 use Rattle.poly.specs.Operations.{productAt, productOf}
 use Rattle.poly.proofs.Lists.{bounded-mono, bounded-zeros, bounded-tabulate}
 use Rattle.poly.proofs.Bounds.{zero-remainder}
 use Rattle.poly_product.proofs.Products.{terms, terms-after, sum-zeros, bounded-product}
-use Rattle.interpolation.proofs.PairLaws.{bounded-one}
-use Rattle.candidate.specs.declared.Candidate.{Candidate}
-use Rattle.candidate.specs.Candidates.{Sized, primeOf, Fitting, unsolvableCandidate, startCandidate}
-
--- what the sizes of the bounds say of lengths
-pub numerator-low : {b : Bounds} → Sized b → (j : ℕ) → numeratorBoundOf b j ≤ 30
-numerator-low s j = let e = s .enough j in let r = s .rows in omega arith
-
-pub denominator-low : {b : Bounds} → Sized b → b .denominator + 2 * b .errors ≤ 30
-denominator-low s = let e = s .enough 0 in let r = s .rows in omega arith
-
-pub slack-low : {b : Bounds} → Sized b → b .denominator + b .errors < b .rows
-slack-low s = let e = s .enough 0 in omega arith
+use Rattle.column.specs.Sizes.{primeOf}
+use Rattle.extension.specs.declared.Candidate.{Candidate}
+use Rattle.extension.specs.Extensions.{Fitting, unsolvableCandidate}
 
 -- a times h keeps to a bound that the sum of their lengths keeps to, also where a is zero
 pub bounded-raised : {p la lh n : ℕ} {a h : List ℕ} → 0 < p → Bounded p la a → Bounded p lh h → (0 < la → la + lh ≤ n + 1) → Bounded p n (productOf p a h)
@@ -55,7 +45,7 @@ bounded-none p m (suc n) (suc j) positive = bounded-none p m n j positive
 
 -- candidates that keep to the bounds
 module _ (b : Bounds) where
-  fitting-none : (solvable : Bool) (g : Poly) → Bounded (primeOf b) (b .denominator + 1) (g .c)
+  pub fitting-none : (solvable : Bool) (g : Poly) → Bounded (primeOf b) (b .denominator + 1) (g .c)
       → Fitting b (record { solvable = solvable; g = g; f = replicate 4 zeroPoly })
   fitting-none solvable g bg = record {
     size = refl;
@@ -66,10 +56,6 @@ module _ (b : Bounds) where
   pub fitting-unsolvable : Fitting b unsolvableCandidate
   unfolding unsolvableCandidate
   fitting-unsolvable = fitting-none false zeroPoly (bounded-zeros _ _ 32 (modulus-positive (b .prime)))
-
-  pub fitting-start : Fitting b startCandidate
-  unfolding startCandidate
-  fitting-start = fitting-none true onePoly (bounded-mono (bounded-one _ (modulus-prime (b .prime) .two)) (omega arith))
 
   -- another denominator, and another numerator of output j
   pub fitting-set : {c : Candidate} → Fitting b c → (solvable : Bool) (g v : Poly) (j : ℕ) → j < 4

@@ -1,0 +1,16 @@
+-- The right-hand sides of one output's conditions, row by row.
+use mathlib.Core.Bool.{cond}
+use mathlib.Core.List.{List}
+use Prim.Native.Nat.{ℕ, _+_, _*_, _%_}
+use lib.Dec.{ltb}
+use Rattle.format.specs.declared.Bounds.{Bounds}
+use Rattle.poly.specs.Coefficients.{at, tabulate}
+use Rattle.poly.specs.Operations.{valueOf}
+use Rattle.column.specs.Sizes.{primeOf}
+
+-- g(x) y at row l, y the value of output i
+unfoldable pub columnAt : ℕ → ℕ → List ℕ → List ℕ → ℕ → List ℕ → ℕ → ℕ
+columnAt p rows points values i g l = cond (ltb l rows) (valueOf p (at points l) g * at values (l * 4 + i) % p) 0
+
+unfoldable pub columnOf : Bounds → List ℕ → List ℕ → ℕ → List ℕ → List ℕ
+columnOf b points values i g = tabulate 32 (columnAt (primeOf b) (b .rows) points values i g)

@@ -1,0 +1,2 @@
+pub mod Fittings
+pub mod ExtensionLaws

@@ -1,0 +1,88 @@
+// A candidate, and the candidate with one output more: its fraction a / h, and every earlier numerator times h.
+ghost use Prim.Native.Nat.{_≤_, _<_};
+ghost use mathlib.Core.Path.{_≡_};
+ghost use Rattle.field.specs.Primes.{modulusOf};
+ghost use Rattle.poly.specs.Coefficients.{Bounded};
+ghost use Rattle.poly.specs.Operations.{lengthOf};
+ghost use Rattle.column.specs.Sizes.{Sized};
+ghost use Rattle.extension.specs.Extensions.{unsolvableCandidate, raisedAt, raisedBelow, extendedOf, Fitting};
+use format::Bounds;
+use poly::Poly;
+
+// The common denominator g, and the numerators of the outputs done; the others are zero.
+pub struct Candidate {
+    pub solvable: bool,
+    pub g: Poly,
+    pub f: [Poly; 4],
+}
+
+pub fn unsolvable() -> Candidate
+    ensures { λ r. ⌜ r ≡ unsolvableCandidate ⌝ }
+{
+    let none = poly::zero();
+    Candidate {
+        solvable: false,
+        g: none,
+        f: [none; 4],
+    }
+}
+
+// The numerator of output j times h; no answer, if that is too long.
+fn raised_at(b: Bounds, c: Candidate, j: usize, h: Poly, lh: usize) -> Candidate
+    requires { ⌜ Sized b × Fitting b c × (j < 4) × (lh ≡ lengthOf (h .c)) × (lh ≤ 32) × Bounded (modulusOf (b .prime)) lh (h .c) ⌝ }
+    ensures { λ r. ⌜ (r ≡ raisedAt b (h .c) j c) × Fitting b r ⌝ }
+{
+    let prime = b.prime;
+    let bound = b.numerator_bound(j);
+    let f = c.f[j];
+    let l = poly::length(bound + 1, f);
+    if 0 < l {
+        if bound + 2 < l + lh {
+            return unsolvable();
+        }
+    }
+    let mut r = c;
+    let product = poly_product::product(prime, f, l, h, lh);
+    r.f[j] = product;
+    r
+}
+
+// The numerators of the first i outputs times h.
+fn raised(b: Bounds, c: Candidate, i: usize, h: Poly, lh: usize) -> Candidate
+    requires { ⌜ Sized b × Fitting b c × (i ≤ 4) × (lh ≡ lengthOf (h .c)) × (lh ≤ 32) × Bounded (modulusOf (b .prime)) lh (h .c) ⌝ }
+    ensures { λ r. ⌜ (r ≡ raisedBelow b (h .c) i c) × Fitting b r ⌝ }
+{
+    let mut r = c;
+    for j in 0..i {
+        if r.solvable {
+            r = raised_at(b, r, j, h, lh);
+        }
+    }
+    r
+}
+
+// With a / h for output i, in units of 1 / g.
+pub fn extended(b: Bounds, c: Candidate, i: usize, a: Poly, h: Poly) -> Candidate
+    requires { ⌜ Sized b × Fitting b c × (i < 4) × Bounded (modulusOf (b .prime)) 32 (a .c) × Bounded (modulusOf (b .prime)) 32 (h .c) ⌝ }
+    ensures { λ r. ⌜ (r ≡ extendedOf b i (a .c) (h .c) c) × Fitting b r ⌝ }
+{
+    let prime = b.prime;
+    let bound = b.denominator;
+    let g = c.g;
+    let lg = poly::length(bound + 1, g);
+    let lh = poly::length(32, h);
+    let la = poly::length(32, a);
+    if bound + 2 < lg + lh {
+        return unsolvable();
+    }
+    if b.numerator_bound(i) + 1 < la {
+        return unsolvable();
+    }
+    let mut r = raised(b, c, i, h, lh);
+    if r.solvable {
+        let product = poly_product::product(prime, g, lg, h, lh);
+        r.f[i] = a;
+        r.g = product;
+    }
+    r
+}
