@@ -15,9 +15,9 @@ use Rattle.poly.specs.Coefficients.{Bounded}
 use Rattle.poly.proofs.Lists.{at-zeros, bounded-mono}
 use Rattle.poly_meaning.proofs.Series.{series, series-below, zeros-means}
 use Rattle.poly_meaning.proofs.Degrees.{length-means}
-use Rattle.euclid.specs.Division.{degreeOf, leadingReciprocal, remainderOf, quotientOf}
-use Rattle.euclid.proofs.Leading.{Divisor, degree-is}
-use Rattle.euclid.proofs.Steps.{bounded-remainder, bounded-quotient}
+use Rattle.division.specs.Division.{degreeOf, leadingReciprocal, remainderOf, quotientOf}
+use Rattle.division.proofs.Leading.{Divisor, degree-is}
+use Rattle.division.proofs.Steps.{bounded-remainder, bounded-quotient}
 use Rattle.euclid_meaning.proofs.Steps.{steps-mean}
 
 module _ (p : ℕ) (P : IsPrime p) {b : List ℕ} {lb : ℕ} (D : Divisor p b lb) where

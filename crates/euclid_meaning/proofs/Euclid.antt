@@ -8,9 +8,9 @@ use Rattle.reciprocal.proofs.PrimeField.{residueField}
 use Rattle.poly.specs.Operations.{lengthOf}
 use Rattle.poly_meaning.proofs.Series.{series, series-below}
 use Rattle.poly_meaning.proofs.Degrees.{length-means-null}
-use Rattle.euclid.specs.Division.{remainderOf}
+use Rattle.division.specs.Division.{remainderOf}
 use Rattle.euclid.specs.Euclid.{gcdOf}
-use Rattle.euclid.proofs.Leading.{Stored, stored-bounded, length-stored, divisor-of}
+use Rattle.division.proofs.Leading.{Stored, stored-bounded, length-stored, divisor-of}
 use Rattle.euclid.proofs.Euclid.{gcd-stop, gcd-more, euclid-induction}
 use Rattle.euclid_meaning.proofs.Division.{division-means}
 

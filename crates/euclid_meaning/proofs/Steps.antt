@@ -14,9 +14,9 @@ use Rattle.reciprocal.proofs.PrimeField.{Residue, residue, addR, mulR, negR, ad
 use Rattle.poly.specs.Coefficients.{at, Bounded}
 use Rattle.poly.proofs.Lists.{at-past}
 use Rattle.poly_meaning.proofs.Series.{series, residue-mod, tabulate-means}
-use Rattle.euclid.specs.Division.{shifted, cancelledAt, cancelledOf, factorOf, stepOf, remainderFrom, quotientFrom}
-use Rattle.euclid.proofs.Cancellation.{shifted-above, length-step}
-use Rattle.euclid.proofs.Steps.{factor-small}
+use Rattle.division.specs.Division.{shifted, cancelledAt, cancelledOf, factorOf, stepOf, remainderFrom, quotientFrom}
+use Rattle.division.proofs.Cancellation.{shifted-above, length-step}
+use Rattle.division.proofs.Steps.{factor-small}
 use Rattle.euclid_meaning.proofs.Monomials.{monomial, monomial-here, monomial-other}
 
 -- what one step moves from the remainder to the quotient

@@ -12,9 +12,9 @@ use Rattle.poly.specs.Operations.{lengthOf, scaledAt, scaledOf}
 use Rattle.poly.proofs.Lists.{at-tabulate}
 use Rattle.poly.proofs.Lengths.{length-past}
 use Rattle.poly_meaning.proofs.Degrees.{null-length, length-means-null}
-use Rattle.euclid.specs.Division.{quotientOf, degreeOf, leadingReciprocal}
+use Rattle.division.specs.Division.{quotientOf, degreeOf, leadingReciprocal}
 use Rattle.euclid.specs.Euclid.{gcdOf}
-use Rattle.euclid.proofs.Leading.{Stored, stored-bounded, length-stored, divisor-of, leading-inverts}
+use Rattle.division.proofs.Leading.{Stored, stored-bounded, length-stored, divisor-of, leading-inverts}
 use Rattle.euclid.proofs.Euclid.{stored-quotient, gcd-stored, gcd-zero}
 use Rattle.euclid_meaning.proofs.Division.{exact-quotient}
 use Rattle.euclid_meaning.proofs.Euclid.{gcd-means}

@@ -3,7 +3,7 @@
 use mathlib.Core.List.{List}
 use Prim.Native.Nat.{ℕ}
 use Rattle.poly.specs.Operations.{scaledOf}
-use Rattle.euclid.specs.Division.{quotientOf, leadingReciprocal}
+use Rattle.division.specs.Division.{quotientOf, leadingReciprocal}
 use Rattle.euclid.specs.Euclid.{gcdOf}
 
 -- the reciprocal of the leading coefficient of b divided by the greatest common divisor of a and b

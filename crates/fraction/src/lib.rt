@@ -25,8 +25,8 @@ pub fn lowest_terms(q: Prime, n: usize, phi: Poly, psi: Poly) -> Fraction
     let lb = poly::length(n, psi);
     let c = euclid::gcd(q, phi, la, psi, lb);
     let lc = poly::length(n, c);
-    let a = euclid::divide(q, phi, la, c, lc);
-    let h = euclid::divide(q, psi, lb, c, lc);
+    let a = division::divide(q, phi, la, c, lc);
+    let h = division::divide(q, psi, lb, c, lc);
     let numerator = a.quotient;
     let denominator = h.quotient;
     let lh = poly::length(n, denominator);

@@ -18,7 +18,7 @@ use Rattle.poly.specs.Operations.{
   productOf,
 }
 use Rattle.reciprocal.specs.Reciprocals.{lastBelow, reciprocalOf}
-use Rattle.euclid.specs.Division.{
+use Rattle.division.specs.Division.{
   shifted,
   cancelledAt,
   cancelledOf,

@@ -20,9 +20,9 @@ use Rattle.poly.proofs.Lists.{bounded-mono}
 use Rattle.poly.proofs.Bounds.{bounded-scaled}
 use Rattle.poly_meaning.proofs.Series.{series, series-at, scaled-means}
 use Rattle.poly_meaning.proofs.Degrees.{length-means, degree-length, null-length}
-use Rattle.euclid.specs.Division.{quotientOf, degreeOf, leadingReciprocal}
+use Rattle.division.specs.Division.{quotientOf, degreeOf, leadingReciprocal}
 use Rattle.euclid.specs.Euclid.{gcdOf}
-use Rattle.euclid.proofs.Leading.{Stored, stored-bounded, length-stored, Divisor, divisor-of}
+use Rattle.division.proofs.Leading.{Stored, stored-bounded, length-stored, Divisor, divisor-of}
 use Rattle.euclid.proofs.Euclid.{gcd-stored, stored-quotient}
 use Rattle.euclid_meaning.proofs.Division.{exact-quotient}
 use Rattle.euclid_meaning.proofs.Euclid.{gcd-means}

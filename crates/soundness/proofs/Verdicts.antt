@@ -20,7 +20,7 @@ use Rattle.poly_meaning.proofs.Series.{residue-mod, value-means-bounded}
 use Rattle.poly_meaning.proofs.Degrees.{length-means-null}
 use Rattle.interpolation.specs.declared.Pair.{Pair}
 use Rattle.interpolation.specs.Pairs.{PairBounded, choose, solutionOf}
-use Rattle.euclid.proofs.Leading.{Stored}
+use Rattle.division.proofs.Leading.{Stored}
 use Rattle.column.specs.Sizes.{primeOf}
 use Rattle.column.specs.Columns.{columnOf}
 use Rattle.column.proofs.Sizes.{denominator-low}

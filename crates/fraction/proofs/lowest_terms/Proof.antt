@@ -6,9 +6,9 @@ use Rattle.field.proofs.Moduli.{modulus-prime}
 use Rattle.poly.specs.Operations.{scaledOf, lengthOf}
 use Rattle.poly.proofs.Lists.{bounded-mono}
 use Rattle.poly.proofs.Lengths.{bounded-length}
-use Rattle.euclid.specs.Division.{quotientOf}
+use Rattle.division.specs.Division.{quotientOf}
 use Rattle.euclid.specs.Euclid.{gcdOf}
-use Rattle.euclid.proofs.Leading.{Stored, bounded-stored}
+use Rattle.division.proofs.Leading.{Stored, bounded-stored}
 use Rattle.fraction.specs.LowestTerms.{numeratorOf, denominatorOf}
 use Rattle.fraction.proofs.Denominators.{unit-is, divisor-nonzero, quotient-nonzero, denominator-nonzero}
 use borrow.Author.Needs.{needs}

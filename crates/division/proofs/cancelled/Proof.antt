@@ -5,10 +5,10 @@ use borrow.Author.Needs.{needs}
 use lib.ListN.{length}
 use Rattle.field.specs.Primes.{modulusOf}
 use Rattle.poly.specs.Coefficients.{at}
-use Rattle.euclid.specs.Division.{cancelledAt, cancelledOf}
-use Rattle.euclid.proofs.Cancellation.{cancelled-below, cancelled-above, cancelled-there, Replaced, replaced-more, replaced-all}
-use Rattle.euclid.proofs.cancelled.Statement.{statement}
-use Rattle.euclid.proofs.cancelled.Tie as tie
+use Rattle.division.specs.Division.{cancelledAt, cancelledOf}
+use Rattle.division.proofs.Cancellation.{cancelled-below, cancelled-above, cancelled-there, Replaced, replaced-more, replaced-all}
+use Rattle.division.proofs.cancelled.Statement.{statement}
+use Rattle.division.proofs.cancelled.Tie as tie
 
 abbrev Inv-loop : tie.InvT-loop
 Inv-loop q k n lb b m r₀ j₀ r j = (j ≤ lb) × Replaced (cancelledAt (modulusOf q) k n (b .c) (r₀ .c)) (r₀ .c) (n + j) (r .c)

@@ -7,11 +7,11 @@ use Rattle.field.specs.Primes.{modulusOf}
 use Rattle.field.proofs.Moduli.{modulus-prime, residue-below}
 use Rattle.poly.specs.Coefficients.{at}
 use Rattle.poly.proofs.Lists.{bounded-mono}
-use Rattle.euclid.proofs.Leading.{length-array, Divisor, leading-is}
-use Rattle.euclid.proofs.Steps.{bounded-remainder, bounded-quotient}
-use Rattle.euclid.proofs.Loop.{Progress, progress-start, progress-step, progress-end}
-use Rattle.euclid.proofs.divide.Statement.{statement}
-use Rattle.euclid.proofs.divide.Tie as tie
+use Rattle.division.proofs.Leading.{length-array, Divisor, leading-is}
+use Rattle.division.proofs.Steps.{bounded-remainder, bounded-quotient}
+use Rattle.division.proofs.Loop.{Progress, progress-start, progress-step, progress-end}
+use Rattle.division.proofs.divide.Statement.{statement}
+use Rattle.division.proofs.divide.Tie as tie
 
 abbrev Inv-loop : tie.InvT-loop
 Inv-loop q la lb b inverse quotient₀ remainder₀ top₀ quotient remainder top = Progress (modulusOf q) (remainder₀ .c) (b .c) la lb top (quotient .c) (remainder .c)

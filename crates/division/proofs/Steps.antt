@@ -9,9 +9,9 @@ use lib.ListN.{length, set, replicate, length-set, length-replicate}
 use lib.Seq.{getD-set-same, getD-set-other, set-getD}
 use Rattle.poly.specs.Coefficients.{at, Bounded}
 use Rattle.poly.proofs.Lists.{at-zeros, bounded-mono, bounded-zeros}
-use Rattle.euclid.specs.Division.{factorOf, stepOf, remainderFrom, quotientFrom, degreeOf, leadingReciprocal, remainderOf, quotientOf}
-use Rattle.euclid.proofs.Cancellation.{length-step, bounded-step, factor-none, step-none}
-use Rattle.euclid.proofs.Leading.{Divisor, degree-is, leading-inverts}
+use Rattle.division.specs.Division.{factorOf, stepOf, remainderFrom, quotientFrom, degreeOf, leadingReciprocal, remainderOf, quotientOf}
+use Rattle.division.proofs.Cancellation.{length-step, bounded-step, factor-none, step-none}
+use Rattle.division.proofs.Leading.{Divisor, degree-is, leading-inverts}
 
 bounded-set : {p n : ℕ} {c : List ℕ} → Bounded p n c → length c ≡ 32 → (j k : ℕ) → j < n → j < 32 → k < p → Bounded p n (set c j k)
 bounded-set {p} {n} {c} bc size j k ln l small = record { residues = λ x. residue x (ℕ-discrete x j); within = λ x h. past x h }
