@@ -13,7 +13,7 @@ use Rattle.format.specs.Bounds.{numeratorBoundOf}
 use Rattle.poly.specs.declared.Poly.{Poly}
 use Rattle.poly.specs.Vectors.{zeroPoly}
 use Rattle.poly.specs.Operations.{lengthOf, productOf}
-use Rattle.interpolation.specs.Pairs.{choose}
+use Rattle.pair_step.specs.Pairs.{choose}
 use Rattle.column.specs.Sizes.{primeOf}
 use Rattle.extension.specs.declared.Candidate.{Candidate}
 use Rattle.extension.specs.Extensions.{numeratorAt, unsolvableCandidate, raisedAt, raisedBelow, withOutput, extendedOf}

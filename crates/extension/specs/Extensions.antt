@@ -10,7 +10,7 @@ use Rattle.format.specs.Bounds.{numeratorBoundOf}
 use Rattle.poly.specs.Coefficients.{Bounded}
 use Rattle.poly.specs.Vectors.{zeroPoly, coefficientsAt}
 use Rattle.poly.specs.Operations.{lengthOf, productOf}
-use Rattle.interpolation.specs.Pairs.{choose}
+use Rattle.pair_step.specs.Pairs.{choose}
 use Rattle.column.specs.Sizes.{primeOf}
 use Rattle.extension.specs.declared.Candidate.{Candidate}
 

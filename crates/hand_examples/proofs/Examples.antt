@@ -33,7 +33,7 @@ use Rattle.division.specs.Division.{
 }
 use Rattle.euclid.specs.Euclid.{gcdFrom, gcdOf}
 use Rattle.fraction.specs.LowestTerms.{unitOf, numeratorOf, denominatorOf}
-use Rattle.interpolation.specs.Pairs.{discrepancyOf, advancedOf, combinedOf, stepBy, startOf, pairsAfter, smallerOf}
+use Rattle.pair_step.specs.Pairs.{discrepancyOf, advancedOf, combinedOf, stepBy, startOf, pairsAfter, smallerOf}
 use Rattle.column.specs.Columns.{columnAt, columnOf}
 use Rattle.extension.specs.Extensions.{unsolvableCandidate, raisedAt, raisedBelow, withOutput, extendedOf}
 use Rattle.candidate.specs.Candidates.{startCandidate, withFraction, nextOf, candidateAfter}

@@ -13,7 +13,7 @@ use Rattle.format.specs.declared.Reason.the-variants.{NoAnswer}
 use Rattle.format.specs.Bounds.{Storable, answerLengthOf}
 use Rattle.poly.specs.declared.Poly.{Poly}
 use Rattle.poly.specs.Vectors.{zeroPoly}
-use Rattle.interpolation.specs.Pairs.{choose}
+use Rattle.pair_step.specs.Pairs.{choose}
 use Rattle.column.specs.Sizes.{Sized}
 use Rattle.column.proofs.Sizes.{numerator-low, denominator-low}
 use Rattle.extension.specs.declared.Candidate.{Candidate}

@@ -41,7 +41,7 @@ use Rattle.poly.proofs.Lengths.{bounded-length, length-at-most}
 use Rattle.poly_meaning.proofs.Series.{series, series-below, constant-means}
 use Rattle.poly_meaning.proofs.Products.{product-means}
 use Rattle.poly_meaning.proofs.Degrees.{length-means, degree-length, below-bounded}
-use Rattle.interpolation.specs.Pairs.{choose}
+use Rattle.pair_step.specs.Pairs.{choose}
 use Rattle.column.specs.Sizes.{Sized, primeOf}
 use Rattle.column.proofs.Sizes.{numerator-low, denominator-low}
 use Rattle.extension.specs.declared.Candidate.{Candidate}

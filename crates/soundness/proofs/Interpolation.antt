@@ -47,9 +47,9 @@ use Rattle.poly_meaning.proofs.Series.{
   combination-means,
   value-means-bounded,
 }
-use Rattle.interpolation.specs.declared.Pair.{Pair}
-use Rattle.interpolation.specs.declared.Pairs.{Pairs}
-use Rattle.interpolation.specs.Pairs.{
+use Rattle.pair_step.specs.declared.Pair.{Pair}
+use Rattle.pair_step.specs.declared.Pairs.{Pairs}
+use Rattle.pair_step.specs.Pairs.{
   PairBounded,
   PairsBounded,
   discrepancyOf,
@@ -61,7 +61,7 @@ use Rattle.interpolation.specs.Pairs.{
   smallerOf,
   solutionOf,
 }
-use Rattle.interpolation.proofs.PairLaws.{
+use Rattle.pair_step.proofs.PairLaws.{
   pair-mono,
   step-both,
   step-second,

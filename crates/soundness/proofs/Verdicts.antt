@@ -18,8 +18,8 @@ use Rattle.poly.specs.Operations.{valueOf, lengthOf}
 use Rattle.poly.proofs.Lists.{at-tabulate}
 use Rattle.poly_meaning.proofs.Series.{residue-mod, value-means-bounded}
 use Rattle.poly_meaning.proofs.Degrees.{length-means-null}
-use Rattle.interpolation.specs.declared.Pair.{Pair}
-use Rattle.interpolation.specs.Pairs.{PairBounded, choose, solutionOf}
+use Rattle.pair_step.specs.declared.Pair.{Pair}
+use Rattle.pair_step.specs.Pairs.{PairBounded, choose, solutionOf}
 use Rattle.division.proofs.Leading.{Stored}
 use Rattle.column.specs.Sizes.{primeOf}
 use Rattle.column.specs.Columns.{columnOf}

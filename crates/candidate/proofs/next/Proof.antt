@@ -6,8 +6,8 @@ use Rattle.field.specs.Primes.{modulusOf}
 use Rattle.field.proofs.Moduli.{modulus-positive}
 use Rattle.poly.specs.Coefficients.{Bounded}
 use Rattle.poly.proofs.Lists.{bounded-mono}
-use Rattle.interpolation.specs.declared.Pair.{Pair}
-use Rattle.interpolation.specs.Pairs.{solutionOf}
+use Rattle.pair_step.specs.declared.Pair.{Pair}
+use Rattle.pair_step.specs.Pairs.{solutionOf}
 use Rattle.column.specs.Columns.{columnOf}
 use Rattle.column.proofs.Sizes.{slack-low}
 use Rattle.column.proofs.Columns.{bounded-column}

@@ -4,7 +4,7 @@ use native.Mathlib.Omega.{arith}
 use borrow.Author.Needs.{needs}
 use Rattle.field.specs.Primes.{modulusOf}
 use Rattle.field.proofs.Moduli.{modulus-prime}
-use Rattle.interpolation.proofs.PairLaws.{Reached, reached-start, reached-step, pair-mono, pair-short, pair-shorter}
+use Rattle.pair_step.proofs.PairLaws.{Reached, reached-start, reached-step, pair-mono, pair-short, pair-shorter}
 use Rattle.interpolation.proofs.after_rows.Statement.{statement}
 use Rattle.interpolation.proofs.after_rows.Tie as tie
 

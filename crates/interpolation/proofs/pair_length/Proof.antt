@@ -1,6 +1,6 @@
 use native.Mathlib.Omega.{arith}
 use borrow.Author.Needs.{needs}
-use Rattle.interpolation.proofs.PairLaws.{short-by-lengths}
+use Rattle.pair_step.proofs.PairLaws.{short-by-lengths}
 use Rattle.interpolation.proofs.pair_length.Statement.{statement}
 use Rattle.interpolation.proofs.pair_length.Tie as tie
 

@@ -1,6 +1,6 @@
 use native.Mathlib.Omega.{arith}
 use borrow.Author.Needs.{needs}
-use Rattle.interpolation.proofs.PairLaws.{short-mono}
+use Rattle.pair_step.proofs.PairLaws.{short-mono}
 use Rattle.interpolation.proofs.pairs_length.Statement.{statement}
 use Rattle.interpolation.proofs.pairs_length.Tie as tie
 

@@ -1,6 +1,6 @@
 use mathlib.Core.Path.{ap, _∙_}
-use Rattle.interpolation.specs.Pairs.{smallerOf}
-use Rattle.interpolation.proofs.PairLaws.{smaller-first, smaller-second}
+use Rattle.pair_step.specs.Pairs.{smallerOf}
+use Rattle.pair_step.proofs.PairLaws.{smaller-first, smaller-second}
 use borrow.Author.Needs.{needs}
 use Rattle.interpolation.proofs.solution.Statement.{statement}
 use Rattle.interpolation.proofs.solution.Tie as tie

@@ -1,4 +1,4 @@
-use Rattle.interpolation.proofs.PairLaws.{start-is}
+use Rattle.pair_step.proofs.PairLaws.{start-is}
 use borrow.Author.Needs.{needs}
 use Rattle.interpolation.proofs.start.Statement.{statement}
 use Rattle.interpolation.proofs.start.Tie as tie

@@ -14,9 +14,9 @@ use Rattle.poly.specs.Vectors.{onePoly, zeroPoly}
 use Rattle.poly.specs.Operations.{lengthOf}
 use Rattle.poly.proofs.Lengths.{length-past}
 use Rattle.poly.proofs.Lists.{at-zeros, bounded-mono, bounded-zeros}
-use Rattle.interpolation.specs.declared.Pair.{Pair}
-use Rattle.interpolation.specs.declared.Pairs.{Pairs}
-use Rattle.interpolation.specs.Pairs.{PairBounded, PairsBounded, PairShort, advancedOf, combinedOf, choose, stepBy, startOf, stepOf, pairsAfter, discrepancyOf, smallerOf}
+use Rattle.pair_step.specs.declared.Pair.{Pair}
+use Rattle.pair_step.specs.declared.Pairs.{Pairs}
+use Rattle.pair_step.specs.Pairs.{PairBounded, PairsBounded, PairShort, advancedOf, combinedOf, choose, stepBy, startOf, stepOf, pairsAfter, discrepancyOf, smallerOf}
 
 -- a pair by its two coefficient lists
 pub pair-is : (a b : Poly) (e : ℕ) {la lb : List ℕ} → a .c ≡ la → b .c ≡ lb

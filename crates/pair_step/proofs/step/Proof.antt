@@ -3,9 +3,9 @@ use mathlib.Core.Path.{_≡_, _∙_}
 use Prim.Native.Nat.{ℕ, _+_}
 use native.Mathlib.Omega.{arith}
 use Rattle.field.specs.Primes.{modulusOf}
-use Rattle.interpolation.specs.declared.Pairs.{Pairs}
-use Rattle.interpolation.specs.Pairs.{stepBy, stepOf, PairsBounded}
-use Rattle.interpolation.proofs.PairLaws.{
+use Rattle.pair_step.specs.declared.Pairs.{Pairs}
+use Rattle.pair_step.specs.Pairs.{stepBy, stepOf, PairsBounded}
+use Rattle.pair_step.proofs.PairLaws.{
   pair-mono,
   step-both,
   step-second,
@@ -15,8 +15,8 @@ use Rattle.interpolation.proofs.PairLaws.{
   step-at,
 }
 use borrow.Author.Needs.{needs}
-use Rattle.interpolation.proofs.step.Statement.{statement}
-use Rattle.interpolation.proofs.step.Tie as tie
+use Rattle.pair_step.proofs.step.Statement.{statement}
+use Rattle.pair_step.proofs.step.Tie as tie
 
 discrepancy-requires : tie.Need-discrepancy-requires
 discrepancy-requires c κs = search needs

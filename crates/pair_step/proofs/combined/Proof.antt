@@ -1,8 +1,8 @@
-use Rattle.interpolation.specs.Pairs.{combinedOf}
-use Rattle.interpolation.proofs.PairLaws.{pair-is}
+use Rattle.pair_step.specs.Pairs.{combinedOf}
+use Rattle.pair_step.proofs.PairLaws.{pair-is}
 use borrow.Author.Needs.{needs}
-use Rattle.interpolation.proofs.combined.Statement.{statement}
-use Rattle.interpolation.proofs.combined.Tie as tie
+use Rattle.pair_step.proofs.combined.Statement.{statement}
+use Rattle.pair_step.proofs.combined.Tie as tie
 
 combination-requires : tie.Need-combination-requires
 combination-requires c κs = search needs

@@ -1,13 +1,13 @@
 use Prim.Native.Nat.{ℕ, _+_, _*_, _-_, _%_, _≤_, _<_}
 use mathlib.Core.Path.{_≡_, sym, subst, _∙_}
 use native.Mathlib.Omega.{arith}
-use Rattle.interpolation.specs.Pairs.{discrepancyOf}
+use Rattle.pair_step.specs.Pairs.{discrepancyOf}
 use Rattle.poly.proofs.Bounds.{small-product}
 use Rattle.field.specs.Primes.{modulusOf}
 use Rattle.field.proofs.Moduli.{residue-below}
 use borrow.Author.Needs.{needs}
-use Rattle.interpolation.proofs.discrepancy.Statement.{statement}
-use Rattle.interpolation.proofs.discrepancy.Tie as tie
+use Rattle.pair_step.proofs.discrepancy.Statement.{statement}
+use Rattle.pair_step.proofs.discrepancy.Tie as tie
 
 value-requires : tie.Need-value-requires
 value-requires c κs = search needs

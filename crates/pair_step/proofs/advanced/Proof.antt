@@ -1,8 +1,8 @@
-use Rattle.interpolation.specs.Pairs.{advancedOf}
-use Rattle.interpolation.proofs.PairLaws.{pair-is}
+use Rattle.pair_step.specs.Pairs.{advancedOf}
+use Rattle.pair_step.proofs.PairLaws.{pair-is}
 use borrow.Author.Needs.{needs}
-use Rattle.interpolation.proofs.advanced.Statement.{statement}
-use Rattle.interpolation.proofs.advanced.Tie as tie
+use Rattle.pair_step.proofs.advanced.Statement.{statement}
+use Rattle.pair_step.proofs.advanced.Tie as tie
 
 times-linear-requires : tie.Need-times-linear-requires
 times-linear-requires c κs = search needs

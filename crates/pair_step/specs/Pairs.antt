@@ -8,8 +8,8 @@ use lib.ListN.{getD}
 use Rattle.poly.specs.Coefficients.{at, Bounded}
 use Rattle.poly.specs.Vectors.{onePoly, zeroPoly}
 use Rattle.poly.specs.Operations.{valueOf, combinationOf, timesLinearOf}
-use Rattle.interpolation.specs.declared.Pair.{Pair}
-use Rattle.interpolation.specs.declared.Pairs.{Pairs}
+use Rattle.pair_step.specs.declared.Pair.{Pair}
+use Rattle.pair_step.specs.declared.Pairs.{Pairs}
 
 -- both polynomials have coefficients below p, zero from n on
 pub record PairBounded (p n : ℕ) (s : Pair) : Type 0 where
