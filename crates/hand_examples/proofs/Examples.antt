@@ -17,7 +17,7 @@ use Rattle.poly.specs.Operations.{
   productAt,
   productOf,
 }
-use Rattle.reciprocal.specs.Reciprocals.{lastBelow, reciprocalOf}
+use Rattle.reciprocal.specs.Reciprocals.{leastFrom, reciprocalOf}
 use Rattle.division.specs.Division.{
   shifted,
   cancelledAt,
@@ -81,7 +81,7 @@ unfolding table resultOf outcomeOf outcomeOfRows headerOf boundsOf spareBitOf fi
     startCandidate unsolvableCandidate pairsAfter stepBy startOf smallerOf combinedOf advancedOf discrepancyOf valueOf combinationOf
     combinationAt timesLinearOf timesLinearAt scaledOf scaledAt lengthOf lengthBelow sumBelow productAt productOf unitOf numeratorOf
     denominatorOf gcdOf gcdFrom remainderOf quotientOf leadingReciprocal degreeOf quotientFrom remainderFrom stepOf factorOf cancelledOf
-    cancelledAt shifted reciprocalOf lastBelow wrongRow wordOf countBelow coefficientBytes outputBytes
+    cancelledAt shifted reciprocalOf leastFrom wrongRow wordOf countBelow coefficientBytes outputBytes
 as-expected = refl
 
 -- H1 to H12

@@ -7,42 +7,33 @@ use native.Mathlib.Decide.{decLe}
 use native.Mathlib.Omega.{arith}
 use lib.Dec.{eqb}
 use borrow.Author.Tests.{eq-eqb, ne-eqb, eqb-true}
-use Rattle.reciprocal.specs.Reciprocals.{lastBelow, reciprocalOf}
+use Rattle.reciprocal.specs.Reciprocals.{leastFrom, reciprocalOf}
 use Rattle.field.proofs.Remainders.{mod-mul, mul-mod}
 use Rattle.field.proofs.Primality.{IsPrime}
 
 -- a test that r passes, and no other number below m, finds r
-last-is : (test : ℕ → Bool) (m r : ℕ) → test r ≡ true → ((s : ℕ) → s < m → test s ≡ true → s ≡ r)
-    → (n : ℕ) → n ≤ m → r < n → r ≡ lastBelow test n
-unfolding lastBelow
-last-is test m r pass only zero u l = absurd (omega arith)
-last-is test m r pass only (suc n) u l = go (test n) refl (last-is test m r pass only n (omega arith))
+least-is : (test : ℕ → Bool) (m r : ℕ) → r < m → test r ≡ true → ((s : ℕ) → s < m → test s ≡ true → s ≡ r)
+    → (n k : ℕ) → k + n ≡ m → k ≤ r → r ≡ leastFrom n k test
+unfolding leastFrom
+least-is test m r l pass only zero k e u = absurd (omega arith)
+least-is test m r l pass only (suc n) k e u = go (test k) refl (least-is test m r l pass only n (suc k) (omega arith))
   where
-    go : (b : Bool) → test n ≡ b → (r < n → r ≡ lastBelow test n) → r ≡ cond b n (lastBelow test n)
-    go true e lower = sym (only n (omega arith) e)
-    go false e lower = lower (below (decLe (suc r) n))
+    go : (b : Bool) → test k ≡ b → (k < r → r ≡ leastFrom n (suc k) test) → r ≡ cond b k (leastFrom n (suc k) test)
+    go true t later = sym (only k (omega arith) t)
+    go false t later = later (above (decLe (suc k) r))
       where
-        below : Dec (suc r ≤ n) → r < n
-        below (yes h) = h
-        below (no h) =
-            let same : r ≡ n = omega arith in
-            let clash : true ≡ false = sym pass ∙ ap test same ∙ e in
+        above : Dec (suc k ≤ r) → k < r
+        above (yes h) = h
+        above (no h) =
+            let same : r ≡ k = omega arith in
+            let clash : true ≡ false = sym pass ∙ ap test same ∙ t in
             let z : _≡_ {A = ℕ} 0 1 = cc in omega arith
 
 -- a test that nothing passes finds 0
-last-none : (test : ℕ → Bool) → ((s : ℕ) → test s ≡ false) → (n : ℕ) → 0 ≡ lastBelow test n
-unfolding lastBelow
-last-none test fail zero = refl
-last-none test fail (suc n) = rw (fail n) (last-none test fail n)
-
-last-below : (test : ℕ → Bool) (m : ℕ) → 0 < m → (n : ℕ) → n ≤ m → lastBelow test n < m
-unfolding lastBelow
-last-below test m h zero l = h
-last-below test m h (suc n) l = go (test n) (last-below test m h n (omega arith))
-  where
-    go : (b : Bool) → lastBelow test n < m → cond b n (lastBelow test n) < m
-    go true lower = l
-    go false lower = lower
+least-none : (test : ℕ → Bool) → ((s : ℕ) → test s ≡ false) → (n k : ℕ) → 0 ≡ leastFrom n k test
+unfolding leastFrom
+least-none test fail zero k = refl
+least-none test fail (suc n) k = rw (fail k) (least-none test fail n (suc k))
 
 module _ (p a : ℕ) where
   -- s = s r a = r s a = r
@@ -59,11 +50,11 @@ module _ (p a : ℕ) where
   pub reciprocal-is : (r : ℕ) → r < p → r * a % p ≡ 1 → r ≡ reciprocalOf p a
   unfolding reciprocalOf
   reciprocal-is r l e =
-      last-is (λ s. eqb (s * a % p) 1) p r (eq-eqb _ _ e) (λ s ls t. at-most-one r s l ls e (eqb-true _ _ t)) p (omega arith) l
+      least-is (λ s. eqb (s * a % p) 1) p r l (eq-eqb _ _ e) (λ s ls t. at-most-one r s l ls e (eqb-true _ _ t)) p 0 (omega arith) (omega arith)
 
   pub reciprocal-of-zero : 1 < p → a % p ≡ 0 → 0 ≡ reciprocalOf p a
   unfolding reciprocalOf
-  reciprocal-of-zero two z = last-none (λ s. eqb (s * a % p) 1) (λ s. ne-eqb _ _ (λ e. not-one s e)) p
+  reciprocal-of-zero two z = least-none (λ s. eqb (s * a % p) 1) (λ s. ne-eqb _ _ (λ e. not-one s e)) p 0
     where
       not-one : (s : ℕ) → s * a % p ≡ 1 → ⊥
       not-one s e =
@@ -73,7 +64,7 @@ module _ (p a : ℕ) where
 
   pub reciprocal-of-residue : reciprocalOf p (a % p) ≡ reciprocalOf p a
   unfolding reciprocalOf
-  reciprocal-of-residue = ap (λ test. lastBelow test p) (fun-ext (λ r. ap (λ t. eqb t 1) (mul-mod r a p)))
+  reciprocal-of-residue = ap (leastFrom p 0) (fun-ext (λ r. ap (λ t. eqb t 1) (mul-mod r a p)))
 
 -- One step of the computation: p = (p / b) b + p % b, so p - p / b times b leaves p % b.
 next-factor : (p b : ℕ) → 1 < b → b * (p - p / b) % p ≡ p % b % p
@@ -106,10 +97,6 @@ module _ (p : ℕ) (P : IsPrime p) (a : ℕ) where
       go (no h) next =
           let falls = mod-lt p {m = b} l in
           next (P .free b (omega arith) s) (omega arith) (omega arith) (reciprocal-step p a acc b (omega arith) s e)
-
-  pub reciprocal-below : reciprocalOf p a < p
-  unfolding reciprocalOf
-  reciprocal-below = last-below _ p (let t = P .two in omega arith) p (omega arith)
 
   pub reciprocal-inverts : 0 < a % p → reciprocalOf p a * a % p ≡ 1
   reciprocal-inverts l =
