@@ -12,7 +12,9 @@ use Rattle.algebra.proofs.Division.{Division, division-unique}
 use Rattle.field.proofs.Primality.{IsPrime}
 use Rattle.reciprocal.proofs.PrimeField.{residueRing, residueField}
 use Rattle.poly.specs.Coefficients.{Bounded}
+use Rattle.poly.specs.Operations.{lengthOf}
 use Rattle.poly.proofs.Lists.{at-zeros, bounded-mono}
+use Rattle.poly.proofs.Lengths.{length-at-most}
 use Rattle.poly_meaning.proofs.Series.{series, series-below, zeros-means}
 use Rattle.poly_meaning.proofs.Degrees.{length-means}
 use Rattle.division.specs.Division.{degreeOf, leadingReciprocal, remainderOf, quotientOf}
@@ -38,7 +40,8 @@ module _ (p : ℕ) (P : IsPrime p) {b : List ℕ} {lb : ℕ} (D : Divisor p b lb
         let d = degree-is D in
         let l = D .positive in
         let fits = D .fits in
-        sym (steps-mean p P (degreeOf b) (leadingReciprocal p b) (bounded-mono (D .bounded) (omega arith)) (32 - degreeOf b) a (replicate 32 0)
+        let short = length-at-most a la (ba .within) in
+        sym (steps-mean p P (degreeOf b) (leadingReciprocal p b) (bounded-mono (D .bounded) (omega arith)) (lengthOf a - degreeOf b) a (replicate 32 0)
         (omega arith) size (length-replicate {A = ℕ} 32 0) (λ j h. at-zeros 32 j)
         ∙ ap (λ q. addS R (mulS R q (series p P b)) (series p P a)) (zeros-means p P 32)
         ∙ ap (λ q. addS R q (series p P a)) (null-mulS R (series p P b)) ∙ null-add (seriesRing R) (series p P a))
