@@ -23,7 +23,7 @@ pub fn wide(b: u8) -> u32
 }
 
 // The header's 24 bits as one number.
-pub fn header_number(s: &[u8]) -> u32
+fn header_number(s: &[u8]) -> u32
     requires { ⌜ 3 ≤ length (now s) ⌝ }
     ensures { λ r. ⌜ r ≡ headerOf (now (s .entry)) ⌝ }
 {
