@@ -1,41 +1,20 @@
 -- The enlargement rule: the wrong rows of T' are those of T and the further ones.
-use mathlib.Core.Path.{_≡_, refl, sym, _∙_, ap, ap₂, subst}
-use mathlib.Core.Logic.{_⊎_, inl, inr, _↔_}
+use mathlib.Core.Path.{_≡_, refl, sym, _∙_, ap, ap₂}
+use mathlib.Core.Logic.{_⊎_, inl, inr}
 use mathlib.Core.Bool.{Bool, true, false, not, _&&_}
 use mathlib.Core.List.{List}
-use Prim.Native.Nat.{ℕ, zero, suc, _+_, _/_, _%_, _^_, _-_, _≤_, _<_}
-use native.Mathlib.Decide.{decLt, ℕ-discrete}
+use Prim.Native.Nat.{ℕ, zero, suc, _+_, _<_}
 use native.Mathlib.Omega.{arith}
-use lib.ListN.{length}
 use Rattle.method.proofs.Counting.{countWhere, countWhere-zero, countWhere-suc, countIf, countIf-yes, countIf-no}
-use Rattle.method.proofs.Tables.{FurtherRow, FurtherBad, dec-further-bad, old-or-further, bad-adds}
-use Rattle.format.specs.declared.Outcome.{Outcome}
-use Rattle.format.specs.Bounds.{numeratorBoundOf}
-use Rattle.field.specs.Primes.{modulusOf}
-use Rattle.poly.specs.Coefficients.{at, Bounded}
+use Rattle.method.proofs.Tables.{FurtherRow, dec-further-bad, old-or-further, bad-adds}
 use Rattle.header.specs.Header.{boundsOf}
-use Rattle.row_search.specs.Search.{anyBelow, isFound}
+use Rattle.row_search.specs.Search.{isFound}
 use Rattle.row_search.proofs.FirstBelow.{any-passes, none-below}
-use Rattle.job.proofs.Facts.{WellFormedFacts, well-formed-facts}
-use Rattle.word.specs.Word.{flagOf, countBelow, bitAt}
-use Rattle.word.proofs.Words.{bit-exactly}
-use Rattle.recovery.specs.Answers.{primeOf, wrongAt, wrongCount, Within, Reduced, Answer}
-use Rattle.recovery.specs.Recovery.{Settled}
-use Rattle.enlargement.specs.Enlargement.{
-  AnsweredWith,
-  Named,
-  rowBytes,
-  StandsAt,
-  sameBytes,
-  furtherRow,
-  furtherWrong,
-  MarkedAt,
-  Enlarged,
-  Comparable,
-  EnlargementRule,
-}
+use Rattle.job.proofs.Facts.{WellFormedFacts}
+use Rattle.word.specs.Word.{flagOf, countBelow}
+use Rattle.recovery.specs.Answers.{wrongAt, wrongCount}
+use Rattle.enlargement.specs.Enlargement.{rowBytes, StandsAt, sameBytes, furtherRow, furtherWrong}
 use Rattle.enlargement.proofs.RowBytes.{bytes-equal, equal-bytes, same-point, same-wrong}
-use Rattle.enlargement.proofs.Exactly.{answered-named, named-answered, answered-word}
 
 -- tests as decisions
 is-true : (t : Bool) → Dec (t ≡ true)

@@ -1,8 +1,8 @@
 -- A job is answered with f/g and k wrong rows exactly when it is well formed and f/g is its answer, with k wrong rows.
-use mathlib.Core.Path.{_≡_, refl, sym, _∙_, ap, subst}
-use mathlib.Core.Logic.{_⊎_, inl, inr, _↔_}
+use mathlib.Core.Path.{_≡_, sym, _∙_, ap}
+use mathlib.Core.Logic.{inl, inr}
 use mathlib.Core.List.{List}
-use Prim.Native.Nat.{ℕ, _+_, _*_, _≤_, _<_, _^_}
+use Prim.Native.Nat.{ℕ, _+_, _*_, _≤_, _<_}
 use native.Mathlib.Decide.{decLe}
 use native.Mathlib.Omega.{arith}
 use lib.ListN.{length}
@@ -31,14 +31,13 @@ use Rattle.job.specs.Refusals.{
   outcomeOfRows,
 }
 use Rattle.job.proofs.Facts.{well-formed-facts}
-use Rattle.word.specs.Word.{wordOf}
 use Rattle.answer.specs.Bytes.{numeratorStart}
 use Rattle.word.proofs.Words.{word-lt, word-same}
 use Rattle.answer.proofs.Reading.{SixteenBits, read-word, read-denominator, read-numerator}
-use Rattle.recovery.specs.Answers.{primeOf, wrongAt, wrongCount, Within, Answer}
-use Rattle.recovery.specs.Recovery.{wordFor, recoveredOutcome, recoveredArea, RefusedEarly, Answered, RefusedUnsolvable, Settled}
-use Rattle.enlargement.specs.Enlargement.{Meets, Lists, AnsweredWith, Named, AnsweredExactly}
-use Rattle.recovery_laws.proofs.SameFractions.{Same, same-back, wrong-at-same, wrong-count-same, answer-same, at-most-one}
+use Rattle.recovery.specs.Answers.{primeOf, wrongAt, Within}
+use Rattle.recovery.specs.Recovery.{wordFor, recoveredArea, Answered, Settled}
+use Rattle.enlargement.specs.Enlargement.{Lists, AnsweredWith, Named, AnsweredExactly}
+use Rattle.recovery_laws.proofs.SameFractions.{Same, wrong-at-same, wrong-count-same, answer-same, at-most-one}
 
 -- the tests before 8 never answer a job
 not-yet : (reason : Reason) (found : Found) (later : Outcome) (bytes wrong : ℕ) → (later ≡ Recovered bytes wrong → ⊥)

@@ -1,7 +1,7 @@
 -- The enlargement rule, from what two calls settled.
-use mathlib.Core.Path.{_≡_, refl, sym, _∙_, ap, ap₂, subst}
+use mathlib.Core.Path.{_≡_, refl, sym, _∙_, ap, subst}
 use mathlib.Core.Logic.{_⊎_, inl, inr, _↔_}
-use mathlib.Core.Bool.{Bool, true, false}
+use mathlib.Core.Bool.{true}
 use mathlib.Core.List.{List}
 use Prim.Native.Nat.{ℕ, _+_, _≤_, _<_}
 use native.Mathlib.Decide.{ℕ-discrete}
@@ -9,14 +9,13 @@ use native.Mathlib.Omega.{arith}
 use lib.ListN.{length}
 use Rattle.format.specs.Numbers.{wordFrom}
 use Rattle.format.specs.declared.Outcome.{Outcome}
-use Rattle.format.specs.Bounds.{numeratorBoundOf}
 use Rattle.field.specs.Primes.{modulusOf}
-use Rattle.poly.specs.Coefficients.{at, Bounded}
+use Rattle.poly.specs.Coefficients.{at}
 use Rattle.header.specs.Header.{boundsOf}
 use Rattle.job.proofs.Facts.{WellFormedFacts, well-formed-facts}
 use Rattle.word.specs.Word.{bitAt}
 use Rattle.word.proofs.Words.{bit-exactly}
-use Rattle.recovery.specs.Answers.{primeOf, wrongAt, wrongCount, Within, Reduced, Answer}
+use Rattle.recovery.specs.Answers.{primeOf, wrongAt, wrongCount, Within, Reduced}
 use Rattle.recovery.specs.Recovery.{Settled}
 use Rattle.enlargement.specs.Enlargement.{AnsweredWith, Named, StandsAt, furtherRow, furtherWrong, MarkedAt, Enlarged, Comparable, EnlargementRule}
 use Rattle.enlargement.proofs.RowBytes.{same-wrong}

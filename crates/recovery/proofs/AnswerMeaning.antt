@@ -1,31 +1,26 @@
 -- An answer of a job, said of lists of numbers, is an answer of the method's problem for the job's rows.
-use mathlib.Core.Path.{_≡_, refl, sym, _∙_, ap, ap₂, subst}
+use mathlib.Core.Path.{_≡_, refl, sym, _∙_, ap}
 use mathlib.Core.Bool.{Bool, true, false}
 use mathlib.Core.List.{List}
 use Prim.Native.Nat.{ℕ, zero, suc, _+_, _*_, _%_, _≤_, _<_}
 use native.Mathlib.Nat.{mod-eq-of-lt, mod-lt}
-use native.Mathlib.Numerals.{add-one}
 use native.Mathlib.Omega.{arith}
 use Rattle.algebra.proofs.Series.{Series}
 use Rattle.algebra.proofs.Value.{value}
-use Rattle.method.proofs.Problem.{Answer as MethodAnswer, Right, Wrong, wrongCount as methodWrongCount, wrongCount-right, wrongCount-wrong, wrongCount-all-right, Evaluation, Problem}
+use Rattle.method.proofs.Problem.{Answer as MethodAnswer, Right, wrongCount as methodWrongCount, wrongCount-right, wrongCount-wrong, wrongCount-all-right, Evaluation, Problem}
 use Rattle.reciprocal.proofs.PrimeField.{Residue, residue, residue-mul, equal-residue}
-use Rattle.format.specs.Bounds.{numeratorBoundOf}
-use Rattle.poly.specs.Coefficients.{at, Bounded}
+use Rattle.poly.specs.Coefficients.{at}
 use Rattle.poly.specs.Operations.{valueOf}
 use Rattle.poly.proofs.Values.{value-below}
-use Rattle.poly_meaning.proofs.Series.{series, series-at, series-below, residue-mod, residue-zero, value-means-bounded}
-use Rattle.poly_meaning.proofs.Degrees.{below-bounded}
+use Rattle.poly_meaning.proofs.Series.{series-at, series-below, residue-mod, residue-zero, value-means-bounded}
 use Rattle.header.specs.Header.{boundsOf}
 use Rattle.rows.specs.Rows.{pointOf, valueOf as valueAt, pointsOf, valuesOf}
-use Rattle.job.specs.Refusals.{WellFormed}
 use Rattle.rows.proofs.Entries.{points-at, values-at}
 use Rattle.job.proofs.Facts.{WellFormedFacts}
 use Rattle.word.specs.Word.{flagOf, countBelow}
-use Rattle.judge.specs.Rows.{wrongRow}
 use Rattle.judge.proofs.Rows.{right-all, all-right}
 use Rattle.soundness.proofs.Candidates.{P, R, F, poly, evaluation, problem}
-use Rattle.recovery.specs.Answers.{primeOf, wrongAt, wrongCount, Within, LeadingOne, Reduced, Answer}
+use Rattle.recovery.specs.Answers.{primeOf, wrongAt, Within, Answer}
 use Rattle.recovery.proofs.Coprime.{coprime-means, means-coprime}
 
 module _ (s : List ℕ) {area : ℕ} (W : WellFormedFacts s area) where

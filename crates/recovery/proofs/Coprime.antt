@@ -1,15 +1,14 @@
 -- Paper 01's reduced, said of lists, is that of the polynomials.
-use mathlib.Core.Path.{_≡_, refl, sym, _∙_, ap, ap₂, subst}
+use mathlib.Core.Path.{_≡_, sym, _∙_, ap, ap₂}
 use mathlib.Core.List.{List}
-use Prim.Native.Nat.{ℕ, _%_, _≤_, _<_}
+use Prim.Native.Nat.{ℕ, _<_}
 use native.Mathlib.Nat.{zero-mod}
 use native.Mathlib.Decide.{decLt}
 use Rattle.algebra.proofs.Series.{Series, nullS, mulS}
 use Rattle.algebra.proofs.Bounds.{Polynomial, polynomial-null}
 use Rattle.algebra.proofs.Reduced.{Reduced as ReducedSeries}
 use Rattle.field.proofs.Primality.{IsPrime}
-use Rattle.reciprocal.proofs.PrimeField.{residue, residue-equal, equal-residue, residueRing, residueField}
-use Rattle.poly.specs.Coefficients.{at}
+use Rattle.reciprocal.proofs.PrimeField.{residue-equal, equal-residue, residueRing, residueField}
 use Rattle.poly_meaning.proofs.Series.{series, series-at}
 use Rattle.recovery.specs.Answers.{Divides, Coprime}
 use Rattle.recovery.proofs.Lists.{listOf, list-means, list-polynomial, divides-means, means-divides}

@@ -1,14 +1,13 @@
 -- Polynomials over the residues modulo p as lists of numbers.
-use mathlib.Core.Path.{_≡_, refl, sym, _∙_, ap, fun-ext}
+use mathlib.Core.Path.{_≡_, sym, _∙_, ap, fun-ext}
 use mathlib.Core.List.{List}
-use Prim.Native.Nat.{ℕ, _%_, _≤_, _<_}
+use Prim.Native.Nat.{ℕ}
 use native.Mathlib.Nat.{zero-mod}
 use Rattle.algebra.proofs.Series.{Series, mulS}
-use Rattle.algebra.proofs.Bounds.{Below, Polynomial}
+use Rattle.algebra.proofs.Bounds.{Polynomial}
 use Rattle.field.proofs.Primality.{IsPrime}
-use Rattle.reciprocal.proofs.PrimeField.{Residue, residue, residue-number, residue-equal, equal-residue, residueRing}
-use Rattle.poly.specs.Coefficients.{at, tabulate}
-use Rattle.poly.specs.Operations.{productAt}
+use Rattle.reciprocal.proofs.PrimeField.{residue, residue-number, residue-equal, equal-residue, residueRing}
+use Rattle.poly.specs.Coefficients.{tabulate}
 use Rattle.poly_meaning.proofs.Series.{series, series-at, series-below-length, tabulate-means}
 use Rattle.poly_meaning.proofs.Products.{productAt-means}
 use Rattle.recovery.specs.Answers.{Divides}

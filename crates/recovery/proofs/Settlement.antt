@@ -1,29 +1,26 @@
 -- What the candidate after the last output says of a well-formed job.
-use mathlib.Core.Path.{_≡_, refl, sym, _∙_, ap, subst}
-use mathlib.Core.Logic.{_≢_, inl, inr}
+use mathlib.Core.Path.{_≡_, sym, _∙_, subst}
+use mathlib.Core.Logic.{inl, inr}
 use mathlib.Core.Bool.{Bool, true, false, cond}
 use mathlib.Core.List.{List}
 use Prim.Native.Nat.{ℕ, _≤_, _<_}
 use native.Mathlib.Decide.{decLt}
 use native.Mathlib.Omega.{arith}
 use lib.Dec.{ltb}
-use lib.ListN.{length}
 use borrow.Author.Tests.{le-ltb}
-use Rattle.method.proofs.Problem.{None, Answer as MethodAnswer}
-use Rattle.method.proofs.Decision.{candidate-is-answer, none-if-many-wrong, unique}
-use Rattle.format.specs.Bounds.{numeratorBoundOf}
-use Rattle.poly.specs.Coefficients.{at, Bounded}
+use Rattle.method.proofs.Problem.{None}
+use Rattle.method.proofs.Decision.{candidate-is-answer, none-if-many-wrong}
+use Rattle.poly.specs.Coefficients.{at}
 use Rattle.poly.proofs.Lists.{at-past, at-tabulate, length-tabulate}
 use Rattle.header.specs.Header.{boundsOf}
 use Rattle.rows.specs.Rows.{pointOf, pointsOf, valuesOf}
-use Rattle.job.specs.Refusals.{WellFormed}
 use Rattle.rows.proofs.Entries.{points-at}
-use Rattle.job.proofs.Facts.{WellFormedFacts, well-formed-facts}
+use Rattle.job.proofs.Facts.{WellFormedFacts}
 use Rattle.column.specs.Sizes.{Sized}
 use Rattle.extension.specs.declared.Candidate.{Candidate}
 use Rattle.extension.specs.Extensions.{numeratorAt}
 use Rattle.candidate.specs.Candidates.{Table, candidateAfter}
-use Rattle.soundness.proofs.Candidates.{P, R, F, poly, problem, Usable, Good, Verdict, ample, capacity}
+use Rattle.soundness.proofs.Candidates.{P, F, problem, Usable, Good, Verdict}
 use Rattle.soundness.proofs.Verdicts.{verdict}
 use Rattle.recovery.specs.Answers.{primeOf, wrongCount, Within, Answer, Unsolvable}
 use Rattle.recovery.proofs.AnswerMeaning.{answer-means, means-answer, count-means}

@@ -1,5 +1,5 @@
 -- From the reader's and the solver's results to what a call settles.
-use mathlib.Core.Path.{_≡_, refl, sym, _∙_, ap, ap₂, subst}
+use mathlib.Core.Path.{_≡_, refl, sym, _∙_, ap, subst}
 use mathlib.Core.Logic.{_⊎_, inl, inr}
 use mathlib.Core.Bool.{Bool, true, false}
 use mathlib.Core.List.{List}
@@ -10,16 +10,15 @@ use lib.ListN.{length, getD}
 use Rattle.format.specs.declared.Outcome.{Outcome}
 use Rattle.format.specs.declared.Outcome.the-variants.{Accepted, Recovered, Refused}
 use Rattle.format.specs.declared.Reason.the-variants.{NoAnswer}
-use Rattle.format.specs.Bounds.{answerLengthOf}
 use Rattle.poly.specs.Vectors.{coefficientsAt}
 use Rattle.header.specs.Header.{boundsOf}
-use Rattle.rows.specs.Rows.{pointOf, valueOf, pointsOf, valuesOf}
+use Rattle.rows.specs.Rows.{pointOf, pointsOf, valuesOf}
 use Rattle.job.specs.declared.reading.Reading.{Reading}
 use Rattle.job.specs.Refusals.{outcomeOf, WellFormed}
 use Rattle.job.specs.Answer.{readingWith, readingOf}
 use Rattle.rows.proofs.Entries.{points-at, values-at}
 use Rattle.job.proofs.Facts.{WellFormedFacts, well-formed-facts}
-use Rattle.word.specs.Word.{wordOf, wrongCountOf, countBelow}
+use Rattle.word.specs.Word.{wrongCountOf}
 use Rattle.answer.specs.Bytes.{answerBytes, overwritten}
 use Rattle.word.proofs.Words.{word-same}
 use Rattle.word.proofs.Marks.{count-of-word}
@@ -27,8 +26,8 @@ use Rattle.judge.specs.Rows.{wrongRow, wrongRowAt}
 use Rattle.judge.proofs.Rows.{wrong-same}
 use Rattle.solver.specs.declared.Solution.{Solution}
 use Rattle.recovery.specs.Answers.{primeOf, wrongAt, wrongCount, Answer, Unsolvable}
-use Rattle.recovery.specs.Recovery.{wordFor, recoveredOutcome, recoveredArea, RefusedEarly, Answered, RefusedUnsolvable, Settled}
-use Rattle.solver.specs.Solutions.{unsolvedSolution, wordBy, countedSolution, judgedSolution, solutionFor}
+use Rattle.recovery.specs.Recovery.{wordFor, recoveredOutcome, Settled}
+use Rattle.solver.specs.Solutions.{unsolvedSolution, wordBy, solutionFor}
 use Rattle.recovery.proofs.Settlement.{last, numerators, denominator, unsolvable-early, unsolvable-late, solved}
 use Rattle.solver.proofs.SolutionLaws.{judged-unsolvable, judged-solvable, counted-many, counted-few}
 

@@ -2,21 +2,20 @@
 use mathlib.Core.Path.{_≡_, refl, sym, _∙_, ap, ap₂, subst}
 use mathlib.Core.Bool.{Bool}
 use mathlib.Core.List.{List}
-use Prim.Native.Nat.{ℕ, zero, suc, _+_, _%_, _≤_, _<_}
+use Prim.Native.Nat.{ℕ, zero, suc, _+_, _%_, _<_}
 use native.Mathlib.Nat.{mod-eq-of-lt}
 use native.Mathlib.Omega.{arith}
-use Rattle.algebra.proofs.Series.{Series}
 use Rattle.method.proofs.Decision.{unique}
 use Rattle.reciprocal.proofs.PrimeField.{equal-residue}
 use Rattle.poly.specs.Coefficients.{at, Bounded}
 use Rattle.poly_meaning.proofs.Series.{series-at}
 use Rattle.header.specs.Header.{boundsOf}
-use Rattle.rows.specs.Rows.{pointOf, valueOf, pointsOf, valuesOf}
+use Rattle.rows.specs.Rows.{pointOf, pointsOf, valuesOf}
 use Rattle.job.proofs.Facts.{WellFormedFacts}
 use Rattle.word.specs.Word.{flagOf, countBelow}
 use Rattle.judge.proofs.Rows.{wrong-same}
 use Rattle.soundness.proofs.Candidates.{P, F, poly, problem, ample, capacity}
-use Rattle.recovery.specs.Answers.{primeOf, wrongAt, wrongCount, Divides, Within, Answer}
+use Rattle.recovery.specs.Answers.{primeOf, wrongAt, wrongCount, Divides, Answer}
 use Rattle.recovery.proofs.AnswerMeaning.{answer-means}
 use Rattle.recovery.proofs.Settlement.{usable}
 

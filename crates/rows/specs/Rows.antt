@@ -3,7 +3,6 @@ use Prim.Native.Nat.{ℕ, _+_, _*_, _/_, _%_}
 use mathlib.Core.Bool.{cond}
 use mathlib.Core.List.{List}
 use lib.Dec.{ltb}
-use lib.ListN.{getD}
 use Rattle.format.specs.Numbers.{numberFrom}
 use Rattle.header.specs.Header.{boundsOf}
 use Rattle.poly.specs.Coefficients.{tabulate}

@@ -1,5 +1,4 @@
 -- What the solver returns for a table of rows, as the code makes it.
-use mathlib.Core.Bool.{Bool}
 use mathlib.Core.List.{List}
 use Prim.Native.Nat.{ℕ}
 use lib.Dec.{ltb}

@@ -1,15 +1,15 @@
 -- The wrong rows one by one: the first row that a word marks, and the word without it.
-use Prim.Native.Nat.{ℕ, zero, suc, _+_, _-_, _*_, _^_, _≤_, _<_}
+use Prim.Native.Nat.{ℕ, zero, suc, _+_, _-_, _^_, _≤_, _<_}
 use mathlib.Core.Path.{_≡_, refl, sym, ap, ap₂, _∙_}
 use mathlib.Core.Bool.{Bool, true, false, cond}
-use mathlib.Core.List.{List, [], _++_}
+use mathlib.Core.List.{[], _++_}
 use mathlib.Core.Logic.{⊎-elim}
-use native.Mathlib.Nat.{eq-or-lt-of-le, le-of-suc-le-suc, lt-suc-self}
+use native.Mathlib.Nat.{eq-or-lt-of-le, le-of-suc-le-suc}
 use native.Mathlib.Omega.{arith}
 use lib.Dec.{eqb, lit≤}
 use lib.Count.{leading-top}
 use borrow.Author.Tests.{eq-eqb, ne-eqb}
-use Rattle.word.specs.Word.{flagOf, bitAt, withRow, wordOf, firstFrom, marked, firstWrongOf}
+use Rattle.word.specs.Word.{flagOf, wordOf, firstFrom, marked, firstWrongOf}
 use Rattle.word.proofs.Words.{word-same, bit-of-row}
 use Rattle.word.proofs.Marks.{word-of-marks, leading-marked}
 use Rattle.text.specs.Decimal.{itemOf}

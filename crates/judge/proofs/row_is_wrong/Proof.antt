@@ -4,12 +4,11 @@ use mathlib.Core.List.{[]}
 use Prim.Native.Nat.{ℕ, _+_, _-_, _*_, _%_, _≤_, _<_}
 use native.Mathlib.Omega.{arith}
 use lib.Dec.{eqb}
-use lib.ListN.{length, getD}
+use lib.ListN.{getD}
 use borrow.Author.Count.{below-more}
 use borrow.Author.Tests.{eqb-true, eqb-false, not-true, not-false}
 use borrow.Author.Needs.{needs}
 use Rattle.field.specs.Primes.{modulusOf}
-use Rattle.poly.specs.declared.Poly.{Poly}
 use Rattle.poly.specs.Operations.{valueOf}
 use Rattle.poly.specs.Vectors.{coefficientsAt}
 use Rattle.judge.proofs.Rows.{wrong-one, all-right}

@@ -1,10 +1,8 @@
 -- Each way out of the code is a line of METHOD.md's table.
 use mathlib.Core.Path.{_≡_, _∙_}
-use Prim.Native.Nat.{ℕ, _+_}
 use native.Mathlib.Omega.{arith}
 use Rattle.field.specs.Primes.{modulusOf}
-use Rattle.pair_step.specs.declared.Pairs.{Pairs}
-use Rattle.pair_step.specs.Pairs.{stepBy, stepOf, PairsBounded}
+use Rattle.pair_step.specs.Pairs.{stepBy, stepOf}
 use Rattle.pair_step.proofs.PairLaws.{
   pair-mono,
   step-both,

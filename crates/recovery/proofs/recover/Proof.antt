@@ -1,10 +1,10 @@
-use mathlib.Core.Path.{_≡_, refl, sym, _∙_, ap, subst}
+use mathlib.Core.Path.{_≡_, sym, _∙_, ap, subst}
 use mathlib.Core.Logic.{⊎-elim}
 use mathlib.Core.List.{List}
 use Prim.Native.Nat.{ℕ, _≤_}
 use native.Mathlib.Omega.{arith}
 use lib.ListN.{length}
-use Rattle.format.specs.declared.Outcome.the-variants.{Accepted, Recovered}
+use Rattle.format.specs.declared.Outcome.the-variants.{Accepted}
 use Rattle.format.specs.Bounds.{Storable, answerLengthOf}
 use Rattle.header.specs.Header.{boundsOf}
 use Rattle.rows.specs.Rows.{pointsOf, valuesOf}

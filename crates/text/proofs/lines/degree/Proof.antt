@@ -1,4 +1,4 @@
-use Prim.Native.Nat.{_+_, _*_, _≤_}
+use Prim.Native.Nat.{_≤_}
 use mathlib.Core.Path.{_≡_, refl, sym, _∙_}
 use Rattle.text.specs.Lines.{coefficientFrom, degreeWithin}
 use Rattle.text.proofs.Polynomials.{degree-here, degree-lower}
