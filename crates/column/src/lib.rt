@@ -25,7 +25,7 @@ pub fn column(b: Bounds, points: [u32; 32], values: [u32; 128], i: usize, g: Pol
     for l in 0..rows {
         let x = points[l];
         let y = values[l * 4 + i];
-        r.z[l] = field::product(prime, poly::value(prime, n, g, x), y);
+        r.z[l] = field::product(prime, poly_value::value(prime, n, g, x), y);
     }
     r
 }

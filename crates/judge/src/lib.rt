@@ -19,7 +19,7 @@ fn output_is_right(q: Prime, x: u32, denominator: u32, f: Poly, n: usize, y: u32
     requires { ⌜ (n ≤ 32) × Bounded (modulusOf q) n (f .c) ⌝ }
     ensures { λ right. ⌜ right ≡ eqb (valueOf (modulusOf q) x (f .c)) (denominator * y % modulusOf q) ⌝ }
 {
-    poly::value(q, n, f, x) == field::product(q, denominator, y)
+    poly_value::value(q, n, f, x) == field::product(q, denominator, y)
 }
 
 // One bad value makes the whole row wrong.
@@ -37,7 +37,7 @@ fn row_is_wrong(
     let q = b.prime;
     let n = b.outputs;
     let x = points[r];
-    let denominator = poly::value(q, b.denominator + 1, g, x);
+    let denominator = poly_value::value(q, b.denominator + 1, g, x);
     for i in 0..n {
         let fi = f[i];
         let y = values[r * 4 + i];

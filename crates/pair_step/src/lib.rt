@@ -26,8 +26,8 @@ fn discrepancy(q: Prime, n: usize, x: u32, z: u32, s: Pair) -> u32
 {
     let a = s.a;
     let b = s.b;
-    let left = poly::value(q, n, a, x);
-    let right = poly::value(q, n, b, x);
+    let left = poly_value::value(q, n, a, x);
+    let right = poly_value::value(q, n, b, x);
     let m = field::modulus(q) - z;
     field::reduce(q, left as u64 + m as u64 * right as u64)
 }

@@ -6,10 +6,10 @@ use borrow.Author.Needs.{needs}
 use lib.ListN.{length, drop}
 use Rattle.field.specs.Primes.{modulusOf}
 use Rattle.field.proofs.Moduli.{modulus-positive, residue-below}
 use Rattle.poly.specs.Operations.{valueOf}
 use Rattle.poly.proofs.Values.{value-start, value-step-is, value-below}
-use Rattle.poly.proofs.value.Statement.{statement}
-use Rattle.poly.proofs.value.Tie as tie
+use Rattle.poly_value.proofs.value.Statement.{statement}
+use Rattle.poly_value.proofs.value.Tie as tie
 
 abbrev Inv-loop : tie.InvT-loop
 Inv-loop q n x a w acc₀ j₀ acc j = (j ≤ 8) × (length (a .c) ≡ 32) × (acc < modulusOf q) × (acc ≡ valueOf (modulusOf q) x (drop (4 * j) (a .c)))
