@@ -7,9 +7,9 @@ use Rattle.format.specs.Outcomes.{refusalOf, rowOf, bytesOf, wrongOf}
 use Rattle.recovery.specs.Recovery.{Settled}
 use Rattle.capi.specs.declared.CallReport.{CallReport}
 
--- The report is an outcome that demands 1 and 2 settle for this job and area, in the numbers of paper 01, "When the rack's sheet is sent
--- back": "A refusal carries its number and the row it speaks of"; "Every call that writes an area returns how many bytes .. it wrote; one
--- that recovers adds the count of wrong rows". So a refused call reports 0 bytes and 0 wrong rows, a recovered one refusal 0 and row 0.
+-- The report is an outcome that demands 1 and 2 settle for this job and area, in the numbers of paper 01: "A refusal carries its number
+-- and the row it speaks of"; "Every call that writes an area returns how many bytes .. it wrote; one that recovers adds the count of wrong
+-- rows". So a refused call reports 0 bytes and 0 wrong rows, a recovered one refusal 0 and row 0.
 pub record Reported (s area : List ℕ) (r : CallReport) (after : List ℕ) : Type 0 where
   pub outcome : Outcome
   pub settled : Settled s area outcome after

@@ -1,4 +1,4 @@
--- Paper 01, "Drawings checked by hand": H1 to H12 as one table, with one claim over it. Numbers are hexadecimal, as they stand there.
+-- Paper 01, the jobs checked by hand: H1 to H12 as one table, with one claim over it. Numbers are hexadecimal, as they stand there.
 use mathlib.Core.List.{List, [], _∷_, _++_}
 use Prim.Native.Nat.{ℕ}
 use lib.ListN.{replicate}

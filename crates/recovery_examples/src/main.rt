@@ -2,10 +2,67 @@
 // held A5 before. They are paper 01's H1 to H12, some of them also in longer areas; its refusals; the first bytes of H1's job; jobs with
 // two faults, of which the first in the order of the numbers counts; numbers at a prime and below it; no rows, and eight of them modulo 7;
 // and the longest job, 313 bytes (code 3, four outputs, 31 rows with the points 0 to 30, all values but the last 0), and one byte more.
-ghost use Prim.Native.Nat.{_≤_};
+// A line of the file has a name, a colon, the length of the answer area, and the job's bytes with a space before each. The length and
+// each byte are two hex digits.
+ghost use Prim.Native.Nat.{_≤_, _<_};
+ghost use Rattle.io.specs.Counts.{Counts};
+use libc::STDIN_FILENO;
 use libc::STDOUT_FILENO;
 
-mod input;
+// The next byte of standard input, or 0 at its end.
+fn next() -> u8 {
+    let mut byte = [0u8; 1];
+    io::read_full(STDIN_FILENO, &mut byte);
+    byte[0]
+}
+
+// The value of a hex digit.
+fn digit(c: u8) -> u8
+    ensures { λ r. ⌜ r < 16 ⌝ }
+{
+    (c % 16 + 9 * (c / 64)) % 16
+}
+
+fn read_byte() -> u8 {
+    let high = digit(next());
+    let low = digit(next());
+    16 * high + low
+}
+
+// The length of the answer area.
+fn read_area() -> usize {
+    read_byte() as usize
+}
+
+// Copies a job's name to standard output, and skips the colon; false at the end of the input.
+fn copy_name() -> bool {
+    for _ in 0usize..32 {
+        let c = next();
+        if c == 0 {
+            return false;
+        }
+        if c == b':' {
+            return true;
+        }
+        io::write_all(STDOUT_FILENO, &[c]);
+    }
+    false
+}
+
+// Reads the job's bytes to the end of the line; returns how many there are.
+fn read_job(bytes: &mut [u8]) -> usize
+    ensures { λ r. ⌜ Counts r (now (bytes .exit)) ⌝ }
+{
+    let mut count = 0;
+    while count < bytes.len() {
+        if next() == b'\n' {
+            return count;
+        }
+        bytes[count] = read_byte();
+        count += 1;
+    }
+    count
+}
 
 fn show_numbers(word: &[u8], first: u32, second: u32) {
     io::write_all(STDOUT_FILENO, word);
@@ -47,11 +104,11 @@ fn show(job: &[u8], area: usize)
 
 fn show_next() -> bool {
     let mut job = [0u8; 320];
-    if !input::copy_name() {
+    if !copy_name() {
         return false;
     }
-    let area = input::read_area();
-    let count = input::read_job(&mut job);
+    let area = read_area();
+    let count = read_job(&mut job);
     if 20 < area {
         return false;
     }

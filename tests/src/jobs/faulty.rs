@@ -234,18 +234,17 @@ pub fn damaged(random: &mut Random) -> GeneratedJob {
             }
         }
     }
+    open_job(random, Kind::DamagedBytes, bytes)
+}
+
+/// A job of which nothing is known beforehand, mostly with room for any answer.
+fn open_job(random: &mut Random, kind: Kind, bytes: Vec<u8>) -> GeneratedJob {
     let area_length = if random.once_in(4) {
         any_area(random)
     } else {
         254
     };
-    new_job(
-        random,
-        vec![Kind::DamagedBytes],
-        bytes,
-        area_length,
-        Expected::Open,
-    )
+    new_job(random, vec![kind], bytes, area_length, Expected::Open)
 }
 
 /// Random bytes, half of them with the length that their header asks for.
@@ -268,18 +267,7 @@ pub fn random_bytes(random: &mut Random) -> GeneratedJob {
             keep_in_range(&mut bytes[3..], prime);
         }
     }
-    let area_length = if random.once_in(4) {
-        any_area(random)
-    } else {
-        254
-    };
-    new_job(
-        random,
-        vec![Kind::RandomBytes],
-        bytes,
-        area_length,
-        Expected::Open,
-    )
+    open_job(random, Kind::RandomBytes, bytes)
 }
 
 /// Makes every 16-bit number a residue.

@@ -3,8 +3,8 @@ use mathlib.Core.Path.{_≡_}
 use lib.ListN.{length}
 use Rattle.io.proofs.Counting.{counts}
 use borrow.Author.Needs.{needs}
-use Rattle.recovery_examples.proofs.input.read_job.Statement.{statement}
-use Rattle.recovery_examples.proofs.input.read_job.Tie as tie
+use Rattle.recovery_examples.proofs.read_job.Statement.{statement}
+use Rattle.recovery_examples.proofs.read_job.Tie as tie
 
 abbrev Inv-loop : tie.InvT-loop
 Inv-loop bytes₀ count₀ bytes count = (count ≤ length bytes₀) × (length bytes ≡ length bytes₀)

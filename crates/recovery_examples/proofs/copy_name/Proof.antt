@@ -1,7 +1,7 @@
 use Prim.Native.Nat.{_-_, _≤_}
 use borrow.Author.Needs.{needs}
-use Rattle.recovery_examples.proofs.input.copy_name.Statement.{statement}
-use Rattle.recovery_examples.proofs.input.copy_name.Tie as tie
+use Rattle.recovery_examples.proofs.copy_name.Statement.{statement}
+use Rattle.recovery_examples.proofs.copy_name.Tie as tie
 
 abbrev Inv-loop : tie.InvT-loop
 Inv-loop counter₀ counter = counter ≤ 32
