@@ -4,11 +4,15 @@ use mathlib.Core.Bool.{Bool, true, false, cond}
 use mathlib.Core.List.{List}
 use Prim.Native.Nat.{ℕ, _+_, _*_, _%_, _≤_, _<_}
 use native.Mathlib.Nat.{mod-lt}
+use native.Mathlib.Decide.{decLt}
+use native.Mathlib.Omega.{arith}
 use lib.Dec.{ltb}
 use borrow.Author.Tests.{lt-ltb, le-ltb}
 use Rattle.poly.specs.Coefficients.{at, tabulate, Bounded}
 use Rattle.poly.specs.Operations.{valueOf}
-use Rattle.poly.proofs.Lists.{bounded-tabulate}
+use Rattle.poly.proofs.Lists.{bounded-tabulate, Filled, filled-all}
+use Rattle.evaluation.specs.Values.{valuesOf}
+use Rattle.evaluation.proofs.Steps.{at-row}
 use Rattle.column.specs.Columns.{columnAt}
 
 -- the column, at a row and past the rows
@@ -22,6 +26,18 @@ module _ (p rows : ℕ) (points values : List ℕ) (i : ℕ) (g : List ℕ) wher
   unfolding columnAt
   column-past l h = rw (le-ltb l rows h)
 
+  -- what the loop has stored, v the values of g
+  pub column-all : {v z : List ℕ} → rows ≤ 32 → v ≡ valuesOf p points rows g → Filled (λ l. at v l * at values (l * 4 + i) % p) rows z
+      → z ≡ tabulate 32 (columnAt p rows points values i g)
+  column-all few ev h =
+      filled-all
+      record {
+        size = h .size;
+        done = λ l low. column-is l low (at-row _ points rows ev few l low) (h .done l low);
+        rest = h .rest;
+      }
+      column-past
+
   pub bounded-column : 0 < p → Bounded p rows (tabulate 32 (columnAt p rows points values i g))
   unfolding columnAt
   bounded-column positive = bounded-tabulate p rows 32 _ (λ l. by-row l (ltb l rows)) column-past
@@ -29,3 +45,11 @@ module _ (p rows : ℕ) (points values : List ℕ) (i : ℕ) (g : List ℕ) wher
       by-row : (l : ℕ) (t : Bool) → cond t (valueOf p (at points l) g * at values (l * 4 + i) % p) 0 < p
       by-row l true = mod-lt _ positive
       by-row l false = positive
+
+-- what a loop has stored is below p where f is
+pub filled-below : (p : ℕ) {f : ℕ → ℕ} {k : ℕ} {r : List ℕ} → 0 < p → ((j : ℕ) → f j < p) → Filled f k r → (j : ℕ) → at r j < p
+filled-below p {f} {k} {r} positive low h j = go (decLt j k)
+  where
+    go : Dec (j < k) → at r j < p
+    go (yes done) = rw (h .done j done) (low j)
+    go (no rest) = rw (h .rest j (omega arith)) positive

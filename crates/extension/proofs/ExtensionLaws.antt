@@ -1,22 +1,26 @@
 -- What the code's steps make of a candidate is what the definitions say.
 use mathlib.Core.Path.{_≡_, refl, sym, ap, ap₂, subst, _∙_}
 use mathlib.Core.Bool.{Bool, true, false, _&&_}
-use mathlib.Core.List.{List}
+use mathlib.Core.List.{List, []}
 use Prim.Native.Nat.{ℕ, zero, suc, _+_, _≤_, _<_}
 use native.Mathlib.Numerals.{add-one}
 use native.Mathlib.Omega.{arith}
 use lib.Dec.{ltb}
-use lib.ListN.{set, replicate}
+use lib.ListN.{length, getD, set, replicate}
+use lib.Seq.{set-getD}
 use borrow.Author.Tests.{lt-ltb, le-ltb}
 use Rattle.format.specs.declared.Bounds.{Bounds}
 use Rattle.format.specs.Bounds.{numeratorBoundOf}
 use Rattle.poly.specs.declared.Poly.{Poly}
+use Rattle.poly.specs.Coefficients.{at, Bounded}
 use Rattle.poly.specs.Vectors.{zeroPoly}
 use Rattle.poly.specs.Operations.{lengthOf, productOf}
+use Rattle.poly.proofs.Lengths.{length-at-most}
+use Rattle.poly_product.proofs.Products.{product-one}
 use Rattle.pair_step.specs.Pairs.{choose}
 use Rattle.column.specs.Sizes.{primeOf}
 use Rattle.extension.specs.declared.Candidate.{Candidate}
-use Rattle.extension.specs.Extensions.{numeratorAt, unsolvableCandidate, raisedAt, raisedBelow, withOutput, extendedOf}
+use Rattle.extension.specs.Extensions.{numeratorAt, Fitting, unsolvableCandidate, raisedAt, raisedBelow, withOutput, extendedOf}
 
 -- both candidates that the code writes down
 pub candidate-is : (solvable : Bool) (g none : Poly) {lg : List ℕ} → g .c ≡ lg → none .c ≡ zeroPoly .c
@@ -67,6 +71,10 @@ module _ (b : Bounds) (h : List ℕ) (c : Candidate) where
   unfolding raisedBelow
   raised-stays j e t = step-left (raisedAt b h j) e t ∙ ap (λ (k : ℕ). raisedBelow b h k c) (sym (add-one j))
 
+choose-same : (t : Bool) (c : Candidate) → choose t c c ≡ c
+choose-same true c = refl
+choose-same false c = refl
+
 -- one output more, whose fraction is a / h
 module _ (b : Bounds) (i : ℕ) (a h : List ℕ) where
   pub output-added : (g : List ℕ) (r : Candidate) (v : Poly) → r .solvable ≡ true → v .c ≡ productOf (primeOf b) g h
@@ -84,12 +92,33 @@ module _ (b : Bounds) (i : ℕ) (a h : List ℕ) where
     unfolding extendedOf
     denominator-too-long l = simp (lt-ltb _ _ l)
 
-    pub numerator-too-long : lengthOf (c .g .c) + lengthOf h ≤ b .denominator + 2 → numeratorBoundOf b i + 1 < lengthOf a
-        → unsolvableCandidate ≡ extendedOf b i a h c
+    pub numerator-too-long : numeratorBoundOf b i + 1 < lengthOf a → unsolvableCandidate ≡ extendedOf b i a h c
     unfolding extendedOf
-    numerator-too-long l m = simp (le-ltb _ _ l, lt-ltb _ _ m)
+    numerator-too-long l = simp (lt-ltb _ _ l, choose-same)
 
     pub extended-is : lengthOf (c .g .c) + lengthOf h ≤ b .denominator + 2 → lengthOf a ≤ numeratorBoundOf b i + 1
         → withOutput b i a (c .g .c) h (raisedBelow b h i c) ≡ extendedOf b i a h c
     unfolding extendedOf
     extended-is l m = simp (le-ltb _ _ l, le-ltb _ _ m)
+
+-- where h is 1, the earlier numerators stay
+module _ {b : Bounds} {h : List ℕ} (bh : Bounded (primeOf b) 1 h) (constant : at h 0 ≡ 1) {c : Candidate} (F : Fitting b c)
+    (sizes : (j : ℕ) → j < 4 → length (numeratorAt c j) ≡ 32) where
+  -- a product with h is no longer than the other factor
+  fits : (m : ℕ) (f : List ℕ) → Bounded (primeOf b) (m + 1) f → lengthOf f + lengthOf h ≤ m + 2
+  fits m f bf = omega (arith, length-at-most f (m + 1) (bf .within), length-at-most h 1 (bh .within))
+
+  one-raised-at : (j : ℕ) → j < 4 → raisedAt b h j c ≡ c
+  one-raised-at j l =
+      sym (raised-fits b h j c (getD (c .f) j (record { c = [] })) (λ _. fits _ _ (F .numerators j)) (sym (product-one (F .numerators j) bh constant (sizes j l))))
+      ∙ ap (λ (f : List Poly). record { solvable = c .solvable; g = c .g; f = f }) (set-getD (c .f) j _)
+
+  one-raised : (i : ℕ) → i ≤ 4 → raisedBelow b h i c ≡ c
+  unfolding raisedBelow
+  one-raised zero l = refl
+  one-raised (suc i) l = rw (one-raised i (omega arith), one-raised-at i l) (choose-same (c .solvable) c)
+
+  pub one-extended : (i : ℕ) (a : List ℕ) → i < 4 → lengthOf a ≤ numeratorBoundOf b i + 1
+      → withOutput b i a (c .g .c) h c ≡ extendedOf b i a h c
+  one-extended i a l m =
+      ap (withOutput b i a (c .g .c) h) (sym (one-raised i (omega arith))) ∙ extended-is b i a h c (fits _ _ (F .denominator)) m

@@ -1,17 +1,22 @@
 -- Polynomials that keep to the bounds of a job, in candidates and in products.
 use mathlib.Core.Path.{_≡_, refl, sym, ap, subst, _∙_}
 use mathlib.Core.Bool.{Bool, false}
-use mathlib.Core.List.{List, []}
+use mathlib.Core.List.{List, [], _∷_, map}
 use Prim.Native.Nat.{ℕ, zero, suc, _+_, _≤_, _<_}
 use native.Mathlib.Nat.{mod-lt}
 use native.Mathlib.Decide.{ℕ-discrete}
 use native.Mathlib.Omega.{arith}
 use lib.ListN.{length, set, replicate, length-set}
 use lib.Seq.{getD-set-same, getD-set-other}
+use mir.Val.{Val}
+use denote.Shadow.{shadow}
+use denote.Array.{each}
+use borrow.Author.Needs.{length-unmapped}
 use Rattle.field.proofs.Moduli.{modulus-positive}
 use Rattle.format.specs.declared.Bounds.{Bounds}
 use Rattle.format.specs.Bounds.{numeratorBoundOf}
 use Rattle.poly.specs.declared.Poly.{Poly}
+use Rattle.poly.proofs.Poly.{the-field}
 use Rattle.poly.specs.Coefficients.{Bounded}
 use Rattle.poly.specs.Vectors.{zeroPoly, coefficientsAt}
 use Rattle.poly.specs.Operations.{productAt, productOf}
@@ -28,6 +33,14 @@ unfolding productOf productAt
 bounded-raised {la = zero} {a = a} {h = h} positive ba bh short =
     bounded-tabulate _ _ 32 _ (λ k. mod-lt _ positive) (λ k _. zero-remainder _ _ (sum-zeros (suc k) (terms a h k) (λ i _. terms-after ba bh k i (omega arith))))
 bounded-raised {la = suc la} positive ba bh short = bounded-mono (bounded-product ba bh positive) (let l = short (omega arith) in omega arith)
+
+-- the polynomials of an array have 32 coefficients each: that they are of the type Poly says so
+pub size-of-each : (f : List Poly) (us : List Val) (j : ℕ) → shadow (each _ (the-field .row .own) (map (the-field .into) f) us)
+    → j < length f → length (coefficientsAt f j) ≡ 32
+size-of-each [] us j typed l = absurd (omega arith)
+size-of-each (x ∷ f) [] j typed l = absurd typed
+size-of-each (x ∷ f) (u ∷ us) zero typed l = length-unmapped _ (x .c) 32 (typed .0 .1 .1 .0 .1 .0 .1)
+size-of-each (x ∷ f) (u ∷ us) (suc j) typed l = size-of-each f us j (typed .1) (omega arith)
 
 -- the polynomials of an array, one of them set
 module _ (f : List Poly) (j : ℕ) (v : Poly) where

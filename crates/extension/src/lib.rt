@@ -61,21 +61,31 @@ fn raised(b: Bounds, c: Candidate, i: usize, h: Poly, lh: usize) -> Candidate
     r
 }
 
-// With a / h for output i, in units of 1 / g.
-pub fn extended(b: Bounds, c: Candidate, i: usize, a: Poly, h: Poly) -> Candidate
-    requires { ⌜ Sized b × Fitting b c × (i < 4) × Bounded (modulusOf (b .prime)) 32 (a .c) × Bounded (modulusOf (b .prime)) 32 (h .c) ⌝ }
+// With a / h for output i, in units of 1 / g; from n on all coefficients of a and h are zero. Where h is 1, g and the earlier
+// numerators stay as they are.
+pub fn extended(b: Bounds, c: Candidate, i: usize, n: usize, a: Poly, h: Poly) -> Candidate
+    requires { ⌜ Sized b × Fitting b c × (i < 4) × (n ≤ 32) × Bounded (modulusOf (b .prime)) n (a .c) × Bounded (modulusOf (b .prime)) n (h .c) ⌝ }
     ensures { λ r. ⌜ (r ≡ extendedOf b i (a .c) (h .c) c) × Fitting b r ⌝ }
 {
+    let la = poly::length(n, a);
+    let lh = poly::length(n, h);
+    if b.numerator_bound(i) + 1 < la {
+        return unsolvable();
+    }
+    if lh == 1 {
+        if h.c[0] == 1 {
+            let mut r = c;
+            if r.solvable {
+                r.f[i] = a;
+            }
+            return r;
+        }
+    }
     let prime = b.prime;
     let bound = b.denominator;
     let g = c.g;
     let lg = poly::length(bound + 1, g);
-    let lh = poly::length(32, h);
-    let la = poly::length(32, a);
     if bound + 2 < lg + lh {
-        return unsolvable();
-    }
-    if b.numerator_bound(i) + 1 < la {
         return unsolvable();
     }
     let mut r = raised(b, c, i, h, lh);

@@ -14,6 +14,10 @@ mod-mul a b p =
 pub mul-mod : (a b p : ℕ) → (a * (b % p)) % p ≡ (a * b) % p
 mul-mod a b p = rw (mul-comm a (b % p), mul-comm a b) (mod-mul b a p)
 
+-- numbers that are equal up to multiples of p leave the same
+pub same-remainder : (p a m b n : ℕ) → a + m * p ≡ b + n * p → a % p ≡ b % p
+same-remainder p a m b n e = sym (add-mul-mod-self-right a m p) ∙ ap (λ x. x % p) e ∙ add-mul-mod-self-right b n p
+
 -- the product of two numbers of 32 bits has 64
 pub product-fits : {a b : ℕ} → a < 2 ^ 32 → b < 2 ^ 32 → a * b < 2 ^ 64
 product-fits {a} {b} ha hb =

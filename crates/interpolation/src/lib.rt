@@ -1,96 +1,158 @@
 // METHOD: two pairs of polynomials, one row at a time. After the rows one of the pairs is (a, b), not both zero, with
 // a(x) = z b(x) at every row (x, z), a of degree at most A and b of degree at most B, for as many rows as A + B + 1.
-ghost use Prim.Native.Nat.{ℕ, _+_, _≤_};
+// The discrepancies a(x) - z b(x) of both pairs are kept for all rows and changed as the pairs are, so that no polynomial is evaluated.
+ghost use Prim.Native.Nat.{ℕ, _+_, _-_, _%_, _≤_, _<_};
 ghost use mathlib.Core.Path.{_≡_};
+ghost use lib.ListN.{length};
 ghost use Rattle.field.specs.Primes.{modulusOf};
-ghost use Rattle.pair_step.specs.Pairs.{PairBounded, PairsBounded, PairShort, Conditions, startOf, pairsAfter, solutionOf};
+ghost use Rattle.poly.specs.Coefficients.{at};
+ghost use Rattle.poly.specs.Vectors.{onePoly, zeroPoly};
+ghost use Rattle.pair_step.specs.Pairs.{PairBounded, Conditions, pairsAfter, solutionOf};
+ghost use Rattle.evaluation.specs.Values.{formsOf, Narrow};
+ghost use Rattle.pair_step.specs.Held.{PairHeld, pairOf, pairsOf};
+use evaluation::PerRow;
 use field::Prime;
+use montgomery::Factor;
 use pair_step::Pair;
-use pair_step::Pairs;
+use pair_step::Row;
+use pair_step::Side;
+use pair_step::Sides;
+use poly::Poly;
 
-fn start(bound_a: usize, bound_b: usize) -> Pairs
-    ensures { λ r. ⌜ r ≡ startOf «bound_a» «bound_b» ⌝ }
+// - z at each row: the discrepancies of the pair (0, 1).
+fn negations(q: Prime, z: &[u32; 32], rows: usize) -> PerRow
+    requires { ⌜ (rows ≤ 32) × ((k : ℕ) → at (now z) k < modulusOf q) ⌝ }
+    ensures { λ r. ⌜ ((k : ℕ) → k < rows → at (r .v) k ≡ (0 + (modulusOf q - at (now (z .entry)) k)) % modulusOf q) × Narrow (modulusOf q) (r .v) ⌝ }
 {
-    let one = poly::constant(1);
-    let none = poly::zero();
-    let first = Pair {
-        a: one,
-        b: none,
-        e: bound_b,
-    };
-    let second = Pair {
-        a: none,
-        b: one,
-        e: bound_a,
-    };
-    Pairs {
-        first: first,
-        second: second,
+    let p = montgomery::modulus(q);
+    let mut r = PerRow { v: [0u16; 32] };
+    for k in 0..rows {
+        r.v[k] = montgomery::difference(p, 0, z[k] as u16);
+    }
+    r
+}
+
+// A pair of constants with the number e, before the first row.
+fn started(e: usize) -> Side
+    ensures { λ r. ⌜ r ≡ record { e = e; n = 1; coefficients = 0; discrepancies = 0 } ⌝ }
+{
+    Side {
+        e: e,
+        n: 1,
+        coefficients: 0,
+        discrepancies: 0,
     }
 }
 
-// From where on both polynomials of a pair, or of both pairs, are zero.
-fn pair_length(n: usize, s: Pair) -> usize
-    requires { ⌜ (n ≤ 32) × PairShort n s ⌝ }
-    ensures { λ r. ⌜ (r ≤ n) × PairShort r s ⌝ }
-{
-    let a = s.a;
-    let b = s.b;
-    let la = poly::length(n, a);
-    let lb = poly::length(n, b);
-    if la < lb { lb } else { la }
-}
-
-fn pairs_length(n: usize, s: Pairs) -> usize
-    requires { ⌜ (n ≤ 32) × PairShort n (s .first) × PairShort n (s .second) ⌝ }
-    ensures { λ r. ⌜ (r ≤ n) × PairShort r (s .first) × PairShort r (s .second) ⌝ }
-{
-    let first = s.first;
-    let second = s.second;
-    let l0 = pair_length(n, first);
-    let l1 = pair_length(n, second);
-    if l0 < l1 { l1 } else { l0 }
-}
-
-// Both pairs after the first rows. Their polynomials are about half as long as the rows would allow, and n follows their length.
+// Both pairs after all rows, from (1, 0) and (0, 1).
 fn after_rows(
     q: Prime,
-    points: [u32; 32],
-    z: [u32; 32],
+    points: &[u32; 32],
+    xs: &[u16; 32],
+    z: &[u32; 32],
     rows: usize,
-    bound_a: usize,
-    bound_b: usize,
-) -> Pairs
-    requires { ⌜ Conditions (modulusOf q) points z rows «bound_a» «bound_b» ⌝ }
-    ensures { λ r. ⌜ (r ≡ pairsAfter (modulusOf q) points z «bound_a» «bound_b» rows) × PairsBounded (modulusOf q) (rows + 1) r ⌝ }
+    start: Sides,
+    a0: &mut [u16; 32],
+    b0: &mut [u16; 32],
+    a1: &mut [u16; 32],
+    b1: &mut [u16; 32],
+) -> Sides
+    requires { ⌜ Conditions (modulusOf q) (now points) (now z) rows (start .second .e) (start .first .e) × (now xs ≡ formsOf (modulusOf q) (now points) rows)
+        × (start .first .n ≡ 1) × (start .second .n ≡ 1)
+        × (now a0 ≡ onePoly .c) × (now b0 ≡ zeroPoly .c) × (now a1 ≡ zeroPoly .c) × (now b1 ≡ onePoly .c) ⌝ }
+    ensures { λ s. ⌜
+        (pairsOf (pairOf (now (a0 .exit)) (now (b0 .exit)) (s .first .e)) (pairOf (now (a1 .exit)) (now (b1 .exit)) (s .second .e))
+        ≡ pairsAfter (modulusOf q) (now (points .entry)) (now (z .entry)) (start .second .e) (start .first .e) rows)
+        × PairHeld (modulusOf q) (rows + 1) (now (a0 .exit)) (now (b0 .exit)) × PairHeld (modulusOf q) (rows + 1) (now (a1 .exit)) (now (b1 .exit)) ⌝ }
 {
-    let mut s = start(bound_a, bound_b);
-    let mut n: usize = 1;
+    let ps = [montgomery::modulus(q); 32];
+    let v = montgomery::inverse(q);
+    let vs = [v; 32];
+    // (1, 0) has the discrepancy 1 at every row, and would have c where a condition were c a(x) = z b(x).
+    let mut d0 = [1u16; 32];
+    let negated = negations(q, z, rows);
+    let mut d1 = negated.v;
+    let mut s = start;
     for k in 0..rows {
-        let x = points[k];
-        let v = z[k];
-        s = pair_step::step(q, n, x, v, s);
-        n = pairs_length(n + 1, s);
+        let form = xs[k];
+        let x = Factor {
+            form: form,
+            low: montgomery::low(form, v),
+        };
+        let row = Row {
+            prime: q,
+            index: k,
+            rows: rows,
+            point: points[k],
+            x: x,
+        };
+        s = pair_step::step(&ps, &vs, row, xs, s, a0, b0, &mut d0, a1, b1, &mut d1);
     }
     s
 }
 
-// The pair with the smaller number.
+fn widened(a: &[u16; 32]) -> Poly
+    requires { ⌜ (length (now a) ≡ 32) × ((k : ℕ) → at (now a) k < 65536) ⌝ }
+    ensures { λ r. ⌜ r .c ≡ now (a .entry) ⌝ }
+{
+    let mut r = poly::zero();
+    for k in 0..32 {
+        r.c[k] = a[k] as u32;
+    }
+    r
+}
+
+// The pair with the smaller number. Beside the points stand their forms, which all outputs share.
 pub fn solution(
     q: Prime,
-    points: [u32; 32],
-    z: [u32; 32],
+    points: &[u32; 32],
+    xs: &[u16; 32],
+    z: &[u32; 32],
     rows: usize,
     bound_a: usize,
     bound_b: usize,
 ) -> Pair
-    requires { ⌜ Conditions (modulusOf q) points z rows «bound_a» «bound_b» ⌝ }
-    ensures { λ r. ⌜ (r ≡ solutionOf (modulusOf q) points z «bound_a» «bound_b» rows) × PairBounded (modulusOf q) (rows + 1) r ⌝ }
+    requires { ⌜ Conditions (modulusOf q) (now points) (now z) rows «bound_a» «bound_b» × (now xs ≡ formsOf (modulusOf q) (now points) rows) ⌝ }
+    ensures { λ r. ⌜ (r ≡ solutionOf (modulusOf q) (now (points .entry)) (now (z .entry)) «bound_a» «bound_b» rows)
+        × PairBounded (modulusOf q) (rows + 1) r ⌝ }
 {
-    let s = after_rows(q, points, z, rows, bound_a, bound_b);
+    let mut a0 = [0u16; 32];
+    let mut b0 = [0u16; 32];
+    let mut a1 = [0u16; 32];
+    let mut b1 = [0u16; 32];
+    a0[0] = 1;
+    b1[0] = 1;
+    let start = Sides {
+        first: started(bound_b),
+        second: started(bound_a),
+    };
+    let s = after_rows(
+        q,
+        points,
+        xs,
+        z,
+        rows,
+        start,
+        &mut a0,
+        &mut b0,
+        &mut a1,
+        &mut b1,
+    );
     let first = s.first;
     let second = s.second;
     let e0 = first.e;
     let e1 = second.e;
-    if e0 <= e1 { first } else { second }
+    if e0 <= e1 {
+        Pair {
+            a: widened(&a0),
+            b: widened(&b0),
+            e: e0,
+        }
+    } else {
+        Pair {
+            a: widened(&a1),
+            b: widened(&b1),
+            e: e1,
+        }
+    }
 }

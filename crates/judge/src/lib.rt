@@ -1,63 +1,72 @@
 // Paper 01, "The object": which rows of a table are wrong for an answer.
-ghost use Prim.Native.Nat.{_*_, _%_, _≤_, _<_};
+ghost use Prim.Native.Nat.{ℕ, _+_, _*_, _%_, _≤_, _<_};
 ghost use mathlib.Core.Path.{_≡_};
+ghost use mathlib.Core.Bool.{not};
+ghost use mathlib.Core.List.{List};
 ghost use lib.Dec.{eqb};
 ghost use Rattle.field.specs.Primes.{modulusOf};
-ghost use Rattle.poly.specs.Coefficients.{Bounded};
-ghost use Rattle.poly.specs.Operations.{valueOf};
+ghost use Rattle.format.specs.Bounds.{numeratorBoundOf};
+ghost use Rattle.poly.specs.Coefficients.{at, Bounded};
 ghost use Rattle.poly.specs.Vectors.{coefficientsAt};
+ghost use Rattle.evaluation.specs.Values.{formsOf, valuesOf, Formed};
 ghost use Rattle.word.specs.Word.{wordOf};
-ghost use Rattle.judge.specs.Rows.{wrongRowAt};
+ghost use Rattle.judge.specs.Rows.{rightOutput, wrongRowAt};
 ghost use Rattle.judge.specs.Answers.{Within};
 use field::Prime;
 use format::Bounds;
 use poly::Poly;
 
-// One output of a row at the point x, where `denominator` is the value of g. Nothing is divided,
+// One output of a row, by the values of its numerator and of g at the row's point. Nothing is divided,
 // so that a value of 0 is no exception at a root of g.
-fn output_is_right(q: Prime, x: u32, denominator: u32, f: Poly, n: usize, y: u32) -> bool
-    requires { ⌜ (n ≤ 32) × Bounded (modulusOf q) n (f .c) ⌝ }
-    ensures { λ right. ⌜ right ≡ eqb (valueOf (modulusOf q) x (f .c)) (denominator * y % modulusOf q) ⌝ }
+fn output_is_wrong(q: Prime, numerator: u16, denominator: u16, y: u32) -> bool
+    ensures { λ wrong. ⌜ wrong ≡ not (eqb numerator (denominator * y % modulusOf q)) ⌝ }
 {
-    poly_value::value(q, n, f, x) == field::product(q, denominator, y)
+    numerator as u32 != field::product(q, denominator as u32, y)
 }
 
-// One bad value makes the whole row wrong.
-fn row_is_wrong(
+// The word of the rows where output i is wrong, f its numerator. xs holds the forms of the points, gs the values of g.
+fn wrong_values(
     b: Bounds,
-    points: [u32; 32],
-    values: [u32; 128],
-    g: Poly,
-    f: [Poly; 4],
-    r: usize,
-) -> bool
-    requires { ⌜ (r < 32) × Within b f g ⌝ }
-    ensures { λ wrong. ⌜ wrong ≡ wrongRowAt b points values (coefficientsAt f) (g .c) r ⌝ }
+    i: usize,
+    f: Poly,
+    xs: &[u16; 32],
+    gs: &[u16; 32],
+    values: &[u32; 128],
+) -> u32
+    requires { ⌜ (b .rows ≤ 32) × (i < 4) × (numeratorBoundOf b i ≤ 31) × Bounded (modulusOf (b .prime)) (numeratorBoundOf b i + 1) (f .c)
+        × Formed (modulusOf (b .prime)) (now xs) (b .rows) ⌝ }
+    ensures { λ word. ⌜ ((points g : List ℕ) → now (xs .entry) ≡ formsOf (modulusOf (b .prime)) points (b .rows)
+        → now (gs .entry) ≡ valuesOf (modulusOf (b .prime)) points (b .rows) g
+        → word ≡ wordOf (b .rows) (λ r. not (rightOutput (modulusOf (b .prime)) (at points r) g (f .c) (at (now (values .entry)) (r * 4 + i))))) ⌝ }
 {
     let q = b.prime;
-    let n = b.outputs;
-    let x = points[r];
-    let denominator = poly_value::value(q, b.denominator + 1, g, x);
-    for i in 0..n {
-        let fi = f[i];
-        let y = values[r * 4 + i];
-        if !output_is_right(q, x, denominator, fi, b.numerator_bound(i) + 1, y) {
-            return true;
-        }
+    let rows = b.rows;
+    let numerators = evaluation::values(q, xs, rows, b.numerator_bound(i) + 1, f);
+    let fs = numerators.v;
+    let mut word: u32 = 0;
+    for r in 0..rows {
+        let wrong = output_is_wrong(q, fs[r], gs[r], values[r * 4 + i]);
+        word = word::with_row(word, r, wrong);
     }
-    false
+    word
 }
 
-// The word of the wrong rows.
+// The word of the wrong rows. One bad value makes the whole row wrong.
 pub fn wrong_rows(b: Bounds, points: [u32; 32], values: [u32; 128], g: Poly, f: [Poly; 4]) -> u32
     requires { ⌜ (b .rows ≤ 32) × Within b f g ⌝ }
     ensures { λ word. ⌜ word ≡ wordOf (b .rows) (wrongRowAt b points values (coefficientsAt f) (g .c)) ⌝ }
 {
+    let q = b.prime;
     let rows = b.rows;
+    let n = b.outputs;
+    let forms = evaluation::forms(q, &points, rows);
+    let xs = forms.v;
+    let denominators = evaluation::values(q, &xs, rows, b.denominator + 1, g);
+    let gs = denominators.v;
     let mut word: u32 = 0;
-    for r in 0..rows {
-        let wrong = row_is_wrong(b, points, values, g, f, r);
-        word = word::with_row(word, r, wrong);
+    for i in 0..n {
+        let fi = f[i];
+        word = word | wrong_values(b, i, fi, &xs, &gs, &values);
     }
     word
 }

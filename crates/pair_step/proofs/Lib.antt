@@ -1,1 +1,5 @@
 pub mod PairLaws
+pub mod Discrepancies
+pub mod Arrays
+pub mod Following
+pub mod Lines

@@ -11,12 +11,9 @@ use borrow.Author.Tests.{eq-eqb, ne-eqb, le-leb, lt-leb}
 use Rattle.poly.specs.declared.Poly.{Poly}
 use Rattle.poly.specs.Coefficients.{at, Bounded}
 use Rattle.poly.specs.Vectors.{onePoly, zeroPoly}
-use Rattle.poly.specs.Operations.{lengthOf}
-use Rattle.poly.proofs.Lengths.{length-past}
 use Rattle.poly.proofs.Lists.{at-zeros, bounded-mono, bounded-zeros}
 use Rattle.pair_step.specs.declared.Pair.{Pair}
-use Rattle.pair_step.specs.declared.Pairs.{Pairs}
-use Rattle.pair_step.specs.Pairs.{PairBounded, PairsBounded, PairShort, advancedOf, combinedOf, choose, stepBy, startOf, stepOf, pairsAfter, discrepancyOf, smallerOf}
+use Rattle.pair_step.specs.Pairs.{Pairs, PairBounded, PairsBounded, advancedOf, combinedOf, choose, stepBy, startOf, stepOf, pairsAfter, discrepancyOf, smallerOf}
 
 -- a pair by its two coefficient lists
 pub pair-is : (a b : Poly) (e : ℕ) {la lb : List ℕ} → a .c ≡ la → b .c ≡ lb
@@ -89,13 +86,6 @@ module _ (p x d0 d1 : ℕ) (s : Pairs) where
 pub step-at : (p x : ℕ) {d0 e0 d1 e1 : ℕ} (s : Pairs) → d0 ≡ e0 → d1 ≡ e1 → stepBy p x d0 d1 s ≡ stepBy p x e0 e1 s
 step-at p x s a b = ap₂ (λ (m n : ℕ). stepBy p x m n s) a b
 
-pub start-is : (one none : Poly) (A B : ℕ) → one .c ≡ onePoly .c → none .c ≡ zeroPoly .c
-    → _≡_ {A = Pairs} (record { first = record { a = one; b = none; e = B }; second = record { a = none; b = one; e = A } }) (startOf A B)
-unfolding startOf
-start-is one none A B eo en =
-    ap₂ (λ (x y : Poly). record { first = record { a = x; b = y; e = B }; second = record { a = y; b = x; e = A } })
-    (ap (λ (l : List ℕ). record { c = l }) eo) (ap (λ (l : List ℕ). record { c = l }) en)
-
 pub smaller-first : (s : Pairs) → s .first .e ≤ s .second .e → s .first ≡ smallerOf s
 unfolding smallerOf
 smaller-first s l = simp (le-leb _ _ l)
@@ -114,23 +104,6 @@ bounded-one p l = record { residues = low; within = past }
     past : (k : ℕ) → 1 ≤ k → at (onePoly .c) k ≡ 0
     past zero h = absurd (omega arith)
     past (suc k) h = at-zeros 31 k
-
--- the shorter bound, once it is known
-pub pair-shorter : {p n m : ℕ} {s : Pair} → PairBounded p n s → PairShort m s → PairBounded p m s
-pair-shorter h l = record {
-  left = record { residues = h .left .residues; within = l .left };
-  right = record { residues = h .right .residues; within = l .right };
-}
-
-pub pair-short : {p n : ℕ} {s : Pair} → PairBounded p n s → PairShort n s
-pair-short h = record { left = h .left .within; right = h .right .within }
-
--- a pair is zero from the length of each of its polynomials on
-pub short-by-lengths : (s : Pair) (n : ℕ) → lengthOf (s .a .c) ≤ n → lengthOf (s .b .c) ≤ n → PairShort n s
-short-by-lengths s n la lb = record { left = λ k h. length-past (s .a .c) k (omega arith); right = λ k h. length-past (s .b .c) k (omega arith) }
-
-pub short-mono : {n m : ℕ} {s : Pair} → PairShort n s → n ≤ m → PairShort m s
-short-mono h l = record { left = λ k g. h .left k (omega arith); right = λ k g. h .right k (omega arith) }
 
 -- what the loop over the rows keeps
 pub record Reached (p : ℕ) (points z : List ℕ) (A B k n : ℕ) (s : Pairs) : Type 0 where

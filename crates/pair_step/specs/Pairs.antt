@@ -9,7 +9,11 @@ use Rattle.poly.specs.Coefficients.{at, Bounded}
 use Rattle.poly.specs.Vectors.{onePoly, zeroPoly}
 use Rattle.poly.specs.Operations.{valueOf, combinationOf, timesLinearOf}
 use Rattle.pair_step.specs.declared.Pair.{Pair}
-use Rattle.pair_step.specs.declared.Pairs.{Pairs}
+
+-- the first pair leads in a, the second in b
+pub record Pairs : Type 0 where
+  pub first : Pair
+  pub second : Pair
 
 -- both polynomials have coefficients below p, zero from n on
 pub record PairBounded (p n : ℕ) (s : Pair) : Type 0 where

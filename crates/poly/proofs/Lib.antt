@@ -1,4 +1,5 @@
 pub mod Lists
 pub mod Bounds
 pub mod Values
+pub mod Linear
 pub mod Lengths

@@ -1,14 +1,15 @@
 -- The sum of products that is a coefficient of a product.
-use mathlib.Core.Path.{_≡_, refl, sym, ap, ap₂}
+use mathlib.Core.Path.{_≡_, refl, sym, ap, ap₂, _∙_}
 use mathlib.Core.List.{List}
 use Prim.Native.Nat.{ℕ, zero, suc, _+_, _-_, _*_, _%_, _≤_, _<_, min}
-use native.Mathlib.Nat.{mod-lt}
+use native.Mathlib.Nat.{mod-lt, mod-eq-of-lt, sub-self}
 use native.Mathlib.Numerals.{add-one}
 use native.Mathlib.Decide.{decLt, ℕ-discrete}
 use native.Mathlib.Omega.{arith}
+use lib.ListN.{length}
 use Rattle.poly.specs.Coefficients.{at, Bounded}
 use Rattle.poly.specs.Operations.{sumBelow, productAt, productOf}
-use Rattle.poly.proofs.Lists.{bounded-tabulate}
+use Rattle.poly.proofs.Lists.{is-tabulate, bounded-tabulate}
 use Rattle.poly.proofs.Bounds.{zero-remainder}
 
 -- sums
@@ -87,3 +88,16 @@ module _ {p la lb : ℕ} {a b : List ℕ} (ba : Bounded p la a) (bb : Bounded p 
 
   pub product-start : (k : ℕ) → sumBelow (k + 1 - lb) (terms a b k) ≡ 0
   product-start k = sum-zeros (k + 1 - lb) (terms a b k) (terms-before k)
+
+-- a times the polynomial 1 is a
+module _ {p n : ℕ} {a one : List ℕ} (ba : Bounded p n a) (bo : Bounded p 1 one) (constant : at one 0 ≡ 1) where
+  product-one-at : (k : ℕ) → productAt a one k ≡ at a k
+  unfolding productAt sumBelow
+  product-one-at k =
+      let lower = sum-zeros k (terms a one k) (λ i l. terms-before ba bo k i (omega arith)) in
+      rw (lower, sub-self, constant) (omega arith)
+
+  pub product-one : length a ≡ 32 → productOf p a one ≡ a
+  unfolding productOf
+  product-one size =
+      sym (is-tabulate 32 (λ k. productAt a one k % p) a size (λ k l. sym (ap (λ (t : ℕ). t % p) (product-one-at k) ∙ mod-eq-of-lt (ba .residues k))))

@@ -48,8 +48,8 @@ use Rattle.poly_meaning.proofs.Series.{
   value-means-bounded,
 }
 use Rattle.pair_step.specs.declared.Pair.{Pair}
-use Rattle.pair_step.specs.declared.Pairs.{Pairs}
 use Rattle.pair_step.specs.Pairs.{
+  Pairs,
   PairBounded,
   PairsBounded,
   discrepancyOf,

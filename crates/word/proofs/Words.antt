@@ -1,13 +1,14 @@
 -- Laws of the word of n rows: its bits, its ones, its leading zeros.
 use Prim.Native.Nat.{ℕ, zero, suc, _+_, _-_, _*_, _/_, _%_, _^_, _≤_, _<_}
 use mathlib.Core.Path.{_≡_, refl, sym, ap, ap₂, _∙_}
-use mathlib.Core.Bool.{Bool, true, false, cond}
+use mathlib.Core.Bool.{Bool, true, false, cond, _||_}
 use mathlib.Core.Logic.{_↔_}
 use native.Mathlib.Nat.{pow-suc, add-zero, add-suc, zero-add, zero-mul, mul-assoc, mul-mod-left, mul-le-mul-right, mod-lt, div-add-mod', div-one, lt-of-not-le, lt-suc-self}
 use native.Mathlib.Numerals.{add-one}
 use native.Mathlib.Omega.{arith}
 use lib.Dec.{lit<, lit≤}
 use lib.Arith.{digits-div, digits-mod}
+use lib.Bits.{bitOr, or-block}
 use lib.Pow.{pow-pos, pow-add, shl-shr, shr-shr}
 use lib.Count.{ones, onesIn, ones-cat, leadingZeros, leading-of-zero, leading-unique}
 use Rattle.word.specs.Word.{flagOf, bitAt, withRow, wordOf, countBelow, firstFrom, firstWrong}
@@ -45,6 +46,31 @@ unfolding wordOf
 word-same zero wrong wrong′ same = refl
 word-same (suc n) wrong wrong′ same =
     ap₂ (λ word flag. withRow word n flag) (word-same n wrong wrong′ (λ r h. same r (omega arith))) (same n (lt-suc-self n))
+
+-- no row is wrong
+pub word-none : (n : ℕ) → wordOf n (λ r. false) ≡ 0
+unfolding wordOf
+word-none zero = refl
+word-none (suc n) = omega (arith, word-none n)
+
+flag-or : (a b : Bool) → bitOr (flagOf a) (flagOf b) ≡ flagOf (a || b)
+flag-or true true = refl
+flag-or true false = refl
+flag-or false b = refl
+
+prefix-or : (a b : ℕ → Bool) (n : ℕ) → bitOr (prefixOf a n) (prefixOf b n) ≡ prefixOf (λ r. a r || b r) n
+unfolding prefixOf
+prefix-or a b zero = refl
+prefix-or a b (suc n) =
+    or-block 1 (prefixOf a n) (prefixOf b n) (flagOf (a n)) (flagOf (b n)) (flag-lt (a n)) (flag-lt (b n))
+    ∙ ap₂ (λ high flag. high * 2 + flag) (prefix-or a b n) (flag-or (a n) (b n))
+
+-- a row is wrong in one word or in the other
+pub word-or : (n : ℕ) (a b : ℕ → Bool) → n ≤ 32 → bitOr (wordOf n a) (wordOf n b) ≡ wordOf n (λ r. a r || b r)
+word-or n a b h =
+    let moved = or-block (32 - n) (prefixOf a n) (prefixOf b n) 0 0 (pow-pos (32 - n)) (pow-pos (32 - n)) in
+    rw (word-prefix n a h, word-prefix n b h, word-prefix n (λ r. a r || b r) h, ← prefix-or a b n)
+    (simp add-zero at moved)
 
 -- above the word of n rows there is room for the rows behind them
 room : (n : ℕ) (wrong : ℕ → Bool) → n ≤ 32 → wordOf n wrong + 2 ^ (32 - n) ≤ 2 ^ 32

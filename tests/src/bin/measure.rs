@@ -9,7 +9,9 @@ use std::time::Instant;
 const SEED: u64 = 10;
 const JOBS: u64 = 1000;
 const GROWTH_JOBS: u64 = 200;
-const ROUNDS: usize = 7;
+const ROUNDS: usize = 41;
+/// An elimination takes some twenty times as long as the others: fewer rounds of it.
+const SLOW_ROUNDS: usize = 3;
 /// 31 rows, four outputs.
 const FULL: Size = Size {
     outputs: 4,
@@ -17,51 +19,85 @@ const FULL: Size = Size {
     denominator_bound: 8,
     error_bound: 6,
 };
+/// df, dg and E of the jobs whose number of rows grows.
+const GROWTH: [(usize, usize, usize); 6] = [
+    (1, 0, 1),
+    (2, 2, 1),
+    (3, 3, 2),
+    (6, 4, 4),
+    (8, 6, 5),
+    (10, 8, 6),
+];
+
+/// Microseconds for a job, one entry for each round; the least comes first.
+struct Times {
+    name: &'static str,
+    rounds: Vec<f64>,
+}
+
+impl Times {
+    fn best(&self) -> f64 {
+        self.rounds[0]
+    }
+
+    fn middle(&self) -> f64 {
+        self.rounds[self.rounds.len() / 2]
+    }
+}
 
 fn main() {
     if cfg!(debug_assertions) {
         println!("NOT OPTIMISED: run with --release");
     }
-    println!("{JOBS} jobs modulo 65521, full degrees, no pole, exactly E wrong rows");
-    println!("microseconds for a job: the best and the middle of {ROUNDS} rounds over all jobs");
-    println!("one area of the answer's length for all calls of a round, not cleared between them");
-    show_full();
+    let full = measure_all(FULL, JOBS);
+    let small = measure_all(sized(GROWTH[0]), JOBS);
     println!(
-        "\ngrowth with the rows, 4 outputs, {} jobs each, best",
-        GROWTH_JOBS
+        "library against plain Rust: full job {}, 4 rows {}",
+        headline(&full),
+        headline(&small)
     );
-    for (df, dg, errors) in [
-        (1, 0, 1),
-        (2, 2, 1),
-        (3, 3, 2),
-        (6, 4, 4),
-        (8, 6, 5),
-        (10, 8, 6),
-    ] {
-        let size = Size {
-            numerator_bound: df,
-            denominator_bound: dg,
-            error_bound: errors,
-            ..FULL
-        };
+    println!("\n{JOBS} jobs modulo 65521, full degrees, no pole, exactly E wrong rows; rounds take turns");
+    println!("microseconds for a job: best and middle of {ROUNDS} rounds ({SLOW_ROUNDS} of the second solver)");
+    println!("one area of the answer's length for all calls of a round, not cleared between them");
+    show("df 10, dg 8, E 6, 31 rows, 4 outputs", &full);
+    show("df 1, dg 0, E 1, 4 rows, 4 outputs", &small);
+    println!("\ngrowth with the rows, 4 outputs, {GROWTH_JOBS} jobs each, best");
+    for bounds in GROWTH {
+        let size = sized(bounds);
         show_growth(&format!("{} rows", size.row_count()), size);
     }
-    println!(
-        "\ngrowth with the outputs, 31 rows, {} jobs each, best",
-        GROWTH_JOBS
-    );
+    println!("\ngrowth with the outputs, 31 rows, {GROWTH_JOBS} jobs each, best");
     for outputs in 1..=4 {
         show_growth(&format!("{outputs} outputs"), Size { outputs, ..FULL });
     }
     println!("\nall implementations answered alike on every job");
 }
 
-fn show_full() {
-    println!("\ndf 10, dg 8, E 6, 31 rows, 4 outputs");
-    let times = measure_all(FULL, JOBS);
-    let plain = times.iter().find(|(name, _)| *name == "plain");
-    let plain = plain.map_or(0.0, |(_, time)| time[0]);
-    for (name, [best, middle]) in &times {
+fn sized((numerator_bound, denominator_bound, error_bound): (usize, usize, usize)) -> Size {
+    Size {
+        numerator_bound,
+        denominator_bound,
+        error_bound,
+        ..FULL
+    }
+}
+
+/// The best time of one implementation; not a number where it is not linked.
+fn best_of(times: &[Times], name: &str) -> f64 {
+    let found = times.iter().find(|each| each.name == name);
+    found.map_or(f64::NAN, Times::best)
+}
+
+fn headline(times: &[Times]) -> String {
+    let (library, plain) = (best_of(times, "library"), best_of(times, "plain"));
+    format!("{:.2} ({library:.2} against {plain:.2})", library / plain)
+}
+
+fn show(label: &str, times: &[Times]) {
+    println!("\n{label}");
+    let plain = best_of(times, "plain");
+    for each in times {
+        let (name, best, middle) = (each.name, each.best(), each.middle());
         let ratio = best / plain;
         println!("{name:<10} best {best:>9.2}  middle {middle:>9.2}  {ratio:>7.2} times plain");
     }
@@ -69,34 +105,38 @@ fn show_full() {
 
 fn show_growth(label: &str, size: Size) {
     print!("{label:<10}");
-    for (name, [best, _]) in measure_all(size, GROWTH_JOBS) {
-        print!("  {name} {best:>9.2}");
+    for each in measure_all(size, GROWTH_JOBS) {
+        print!("  {} {:>9.2}", each.name, each.best());
     }
     println!();
 }
 
-/// Best and middle time of each implementation, after a look whether all answer alike. The rounds
-/// of the implementations take turns, so that other load on the machine meets them alike.
-fn measure_all(size: Size, count: u64) -> Vec<(&'static str, [f64; 2])> {
+/// The times of each implementation, after a look whether all answer alike. The rounds of the
+/// implementations take turns, so that other load on the machine meets them alike.
+fn measure_all(size: Size, count: u64) -> Vec<Times> {
     let jobs: Vec<Vec<u8>> = (0..count)
         .map(|index| generate(SEED, index, size).pack())
         .collect();
     compare(&jobs, size);
     let all = implementations();
-    let mut times = vec![Vec::new(); all.len()];
-    for _ in 0..ROUNDS {
-        for (implementation, rounds) in all.iter().zip(&mut times) {
-            rounds.push(measure(*implementation, &jobs, size));
+    let mut times: Vec<Times> = all
+        .iter()
+        .map(|each| Times {
+            name: each.name,
+            rounds: Vec::new(),
+        })
+        .collect();
+    for round in 0..ROUNDS {
+        for (implementation, times) in all.iter().zip(&mut times) {
+            if implementation.name != "second" || round < SLOW_ROUNDS {
+                times.rounds.push(measure(*implementation, &jobs, size));
+            }
         }
     }
-    let best_and_middle = |mut rounds: Vec<f64>| {
-        rounds.sort_by(f64::total_cmp);
-        [rounds[0], rounds[ROUNDS / 2]]
-    };
-    all.iter()
-        .map(|each| each.name)
-        .zip(times.into_iter().map(best_and_middle))
-        .collect()
+    for each in &mut times {
+        each.rounds.sort_by(f64::total_cmp);
+    }
+    times
 }
 
 fn compare(jobs: &[Vec<u8>], size: Size) {

@@ -1,33 +1,37 @@
 use mathlib.Core.Path.{_≡_, ap, _∙_}
 use mathlib.Core.Logic.{⊎-elim}
 use Prim.Native.Nat.{_-_, _≤_}
-use native.Mathlib.Omega.{arith}
-use borrow.Author.Needs.{needs}
 use Rattle.extension.specs.Extensions.{Fitting}
 use Rattle.candidate.specs.Candidates.{candidateAfter}
 use Rattle.candidate.proofs.CandidateLaws.{fitting-start, after-none, after-more, after-stays}
+use borrow.Author.Needs.{needs}
+use native.Mathlib.Omega.{arith}
 use Rattle.candidate.proofs.after_outputs.Statement.{statement}
 use Rattle.candidate.proofs.after_outputs.Tie as tie
 
 abbrev Inv-loop : tie.InvT-loop
-Inv-loop b points values n c₀ i₀ c i = (i ≤ n) × (c ≡ candidateAfter b points values i) × Fitting b c
+Inv-loop b points values n xs c₀ i₀ c i = (i ≤ n) × (c ≡ candidateAfter b points values i) × Fitting b c
 
 abbrev μ-loop : tie.MeasureT-loop
-μ-loop b points values n c₀ i₀ c i = n - i
+μ-loop b points values n xs c₀ i₀ c i = n - i
+
+forms-requires : tie.Need-forms-requires Inv-loop μ-loop
+forms-requires c κs = omega (arith, c .before .pre .0 .rows)
 
 start-requires : tie.Need-start-requires Inv-loop μ-loop
 start-requires c κs = search needs
 
 loop-holds : tie.Need-loop-holds Inv-loop μ-loop
 loop-holds c =
-    let b = c .before .args .b in
+    let b = c .before .before .before .before .args .b in
     (omega arith, c .start .ensures ∙ after-none _ _ _, rw (c .start .ensures) (fitting-start b))
 
 next-requires : tie.Need-next-requires Inv-loop μ-loop
 next-requires c κs =
-    let L = c .before .before in
-    let pre = L .before .before .pre in
-    (pre .0, pre .1, L .loop .inv .2, omega (arith, pre .0 .outputs))
+    let L = c .before .before .before .before .before in
+    let F = L .before .before .before in
+    let pre = F .before .before .pre in
+    (pre .0, pre .1, F .forms .ensures, L .loop .inv .2, omega (arith, pre .0 .outputs))
 
 add-i : tie.Need-add-i Inv-loop μ-loop
 add-i c = omega arith
@@ -38,18 +42,18 @@ loop-less c = omega arith
 loop-again : tie.Need-loop-again Inv-loop μ-loop
 loop-again c =
     let L = c .before .before in
-    let g = L .before .before .args in
+    let g = L .before .before .before .before .before .args in
     ⊎-elim
-    (λ w. (omega arith, after-more (g .b) (g .points) (g .values) (L .loop .i) (L .loop .inv .1) (w .0 .taken) (w .2 ∙ w .1 .ensures .0), rw (w .2) (w .1 .ensures .1)))
-    (λ w. (omega arith, w .1 ∙ after-stays (g .b) (g .points) (g .values) (L .loop .i) (L .loop .inv .1) (w .0 .left), rw (w .1) (L .loop .inv .2)))
+    (λ w. (omega arith, after-more (g .b) (g .t2) (g .t3) (L .loop .i) (L .loop .inv .1) (w .0 .taken) (w .5 ∙ w .4 .ensures .0), rw (w .5) (w .4 .ensures .1)))
+    (λ w. (omega arith, w .1 ∙ after-stays (g .b) (g .t2) (g .t3) (L .loop .i) (L .loop .inv .1) (w .0 .left), rw (w .1) (L .loop .inv .2)))
     (c .if1 .came)
 
 returns : tie.Need-returns Inv-loop μ-loop
 returns c =
     let L = c .before in
-    let g = L .before .before .args in
+    let g = L .before .before .before .before .before .args in
     let all : L .loop .i ≡ g .b .outputs = omega arith in
-    (L .loop .inv .1 ∙ ap (candidateAfter (g .b) (g .points) (g .values)) all, L .loop .inv .2)
+    (L .loop .inv .1 ∙ ap (candidateAfter (g .b) (g .t2) (g .t3)) all, L .loop .inv .2)
 
 pub after-outputs-spec : {M : Type 1} → statement M
 after-outputs-spec =
@@ -57,6 +61,7 @@ after-outputs-spec =
     (tie.spec
     Inv-loop
     μ-loop
+    forms-requires
     start-requires
     loop-holds
     next-requires

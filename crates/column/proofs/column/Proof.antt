@@ -1,50 +1,55 @@
 use mathlib.Core.Path.{_≡_, refl}
-use Prim.Native.Nat.{_-_, _≤_}
+use Prim.Native.Nat.{_-_, _+_, _*_, _%_, _≤_}
 use native.Mathlib.Omega.{arith}
 use borrow.Author.Needs.{needs}
 use Rattle.field.specs.Primes.{modulusOf}
-use Rattle.poly.proofs.Lists.{Filled, filled-none, filled-more, filled-all}
-use Rattle.column.specs.Columns.{columnAt, columnOf}
-use Rattle.column.proofs.Columns.{column-is, column-past}
+use Rattle.field.proofs.Moduli.{modulus-positive, residue-below}
+use Rattle.poly.specs.Coefficients.{at}
+use Rattle.poly.proofs.Lists.{Filled, filled-none, filled-more}
+use Rattle.column.specs.Columns.{columnOf}
+use Rattle.column.proofs.Columns.{column-all, filled-below}
 use Rattle.column.proofs.Sizes.{denominator-low}
 use Rattle.column.proofs.column.Statement.{statement}
 use Rattle.column.proofs.column.Tie as tie
 
 abbrev Inv-loop : tie.InvT-loop
-Inv-loop i g points values prime n rows r₀ l₀ r l =
-    (l ≤ rows) × Filled (columnAt (modulusOf prime) rows points values i (g .c)) l (r .z)
+Inv-loop xs values i prime rows gs r₀ l₀ r l =
+    (l ≤ rows) × Filled (λ k. at gs k * at values (k * 4 + i) % modulusOf prime) l (r .z)
 
 abbrev μ-loop : tie.MeasureT-loop
-μ-loop i g points values prime n rows r₀ l₀ r l = rows - l
+μ-loop xs values i prime rows gs r₀ l₀ r l = rows - l
 
-add-n : tie.Need-add-n Inv-loop μ-loop
-add-n c = omega (arith, denominator-low (c .before .pre .0))
+add-values : tie.Need-add-values Inv-loop μ-loop
+add-values c = omega (arith, denominator-low (c .before .pre .0))
+
+values-requires : tie.Need-values-requires Inv-loop μ-loop
+values-requires c κs =
+    let low = denominator-low (c .before .pre .0) in
+    search needs
 
 loop-holds : tie.Need-loop-holds Inv-loop μ-loop
 loop-holds c = (omega arith, filled-none _ _ refl)
 
-mul-x : tie.Need-mul-x Inv-loop μ-loop
-mul-x c = omega arith
+mul-product : tie.Need-mul-product Inv-loop μ-loop
+mul-product c = omega arith
 
-array-read-x : tie.Need-array-read-x Inv-loop μ-loop
-array-read-x c = omega arith
+array-read-product : tie.Need-array-read-product Inv-loop μ-loop
+array-read-product c = omega arith
 
-mul-y : tie.Need-mul-y Inv-loop μ-loop
-mul-y c = omega arith
+cast-product : tie.Need-cast-product Inv-loop μ-loop
+cast-product c = search needs
 
-add-y : tie.Need-add-y Inv-loop μ-loop
-add-y c = omega arith
+mul-product-2 : tie.Need-mul-product-2 Inv-loop μ-loop
+mul-product-2 c = omega arith
 
-mul-y-2 : tie.Need-mul-y-2 Inv-loop μ-loop
-mul-y-2 c = omega arith
+add-product : tie.Need-add-product Inv-loop μ-loop
+add-product c = omega arith
 
-array-read-y : tie.Need-array-read-y Inv-loop μ-loop
-array-read-y c = omega arith
+mul-product-3 : tie.Need-mul-product-3 Inv-loop μ-loop
+mul-product-3 c = omega arith
 
-value-requires : tie.Need-value-requires Inv-loop μ-loop
-value-requires c κs =
-    let S = c .before .before .before in
-    (omega (arith, denominator-low (S .pre .0)), S .pre .2)
+element-copy-out-product : tie.Need-element-copy-out-product Inv-loop μ-loop
+element-copy-out-product c = omega arith
 
 product-requires : tie.Need-product-requires Inv-loop μ-loop
 product-requires c κs = search needs
@@ -64,14 +69,19 @@ loop-less c = omega arith
 loop-again : tie.Need-loop-again Inv-loop μ-loop
 loop-again c =
     let L = c .before .before .before in
-    let S = L .before .before in
-    let value : c .product .result ≡ columnAt (modulusOf (S .args .b .prime)) (S .args .b .rows) (S .args .t2) (S .args .t3) (S .args .i) (S .args .g .c) (L .loop .l) =
-    column-is _ _ _ _ _ _ _ (omega arith) (c .before .value .ensures .0) (c .product .ensures) in
-    (omega arith, filled-more (L .loop .inv .1) (c .product .result) (omega arith) value)
+    (omega arith, filled-more (L .loop .inv .1) (c .product .result) (omega arith) (c .product .ensures))
 
 returns : tie.Need-returns Inv-loop μ-loop
 unfolding columnOf
-returns c = filled-all (c .before .loop .inv .1) (λ j l. column-past _ _ _ _ _ _ j (omega arith))
+returns c =
+    let L = c .before in
+    let A = L .before .before in
+    let S = A .before .before in
+    let all : L .loop .l ≡ S .args .b .rows = omega arith in
+    let stored = rw all at (L .loop .inv .1) in (
+      λ points h. column-all _ _ points _ _ _ (omega arith) (A .values .ensures points h) stored,
+      filled-below _ (modulus-positive (S .args .b .prime)) (λ k. residue-below (S .args .b .prime) _) stored,
+    )
 
 pub column-spec : {M : Type 1} → statement M
 column-spec =
@@ -79,15 +89,16 @@ column-spec =
     (tie.spec
     Inv-loop
     μ-loop
-    add-n
+    add-values
+    values-requires
     loop-holds
-    mul-x
-    array-read-x
-    mul-y
-    add-y
-    mul-y-2
-    array-read-y
-    value-requires
+    mul-product
+    array-read-product
+    cast-product
+    mul-product-2
+    add-product
+    mul-product-3
+    element-copy-out-product
     product-requires
     mul-r
     element-write-r

@@ -1,113 +1,116 @@
--- Each way out of the code is a line of METHOD.md's table.
-use mathlib.Core.Path.{_≡_, _∙_}
+use Rattle.pair_step.proofs.Lines.{stays, second-advances, first-advances, first-leads, second-leads}
 use native.Mathlib.Omega.{arith}
-use Rattle.field.specs.Primes.{modulusOf}
-use Rattle.pair_step.specs.Pairs.{stepBy, stepOf}
-use Rattle.pair_step.proofs.PairLaws.{
-  pair-mono,
-  step-both,
-  step-second,
-  step-first,
-  step-clear-second,
-  step-clear-first,
-  step-at,
-}
 use borrow.Author.Needs.{needs}
 use Rattle.pair_step.proofs.step.Statement.{statement}
 use Rattle.pair_step.proofs.step.Tie as tie
 
-discrepancy-requires : tie.Need-discrepancy-requires
-discrepancy-requires c κs = search needs
+mul-if1 : tie.Need-mul-if1
+mul-if1 c = search needs
 
-discrepancy-requires-2 : tie.Need-discrepancy-requires-2
-discrepancy-requires-2 c κs = search needs
+element-copy-out-if1 : tie.Need-element-copy-out-if1
+element-copy-out-if1 c = search needs
 
--- the step by the two numbers that were computed is the step by the discrepancies
-by-discrepancies : (D : tie.After-discrepancy2) → let g = D .before .before .before .before .args in
-    stepBy (modulusOf (g .q)) (g .x) (D .before .discrepancy .result) (D .discrepancy2 .result) (g .s)
-    ≡ stepOf (modulusOf (g .q)) (g .x) (g .z) (g .s)
-by-discrepancies D =
-    let g = D .before .before .before .before .args in
-    step-at (modulusOf (g .q)) (g .x) (g .s) (D .before .discrepancy .ensures .0) (D .discrepancy2 .ensures .0)
+mul-if2 : tie.Need-mul-if2
+mul-if2 c = search needs
+
+element-copy-out-if2 : tie.Need-element-copy-out-if2
+element-copy-out-if2 c = search needs
+
+kept-requires : tie.Need-kept-requires
+kept-requires c κs = search needs
+
+kept-requires-2 : tie.Need-kept-requires-2
+kept-requires-2 c κs = search needs
 
 returns : tie.Need-returns
 returns c =
-    let D = c .before .before in
-    let S = D .before .before .before .before in (
-      step-both _ _ _ _ (S .args .s) (c .before .if1 .taken) (c .if2 .taken) ∙ by-discrepancies D,
-      record { one = pair-mono (S .pre .3 .one) (omega arith); two = pair-mono (S .pre .3 .two) (omega arith) },
-    )
+    let T = c .before .before in
+    let S = T .before .before .before .before .before .before in
+    stays (S .pre .2) _ _ _ _ (S .pre .4) (S .pre .5) (S .pre .6) (T .before .before .if1 .taken) (T .if2 .taken) (c .before .kept .ensures) (c .kept2 .ensures)
 
-advanced-requires : tie.Need-advanced-requires
-advanced-requires c κs = search needs
+advance-requires : tie.Need-advance-requires
+advance-requires c κs =
+    let S = c .before .before .before .before .before .before .before .before .before in
+    let low = S .pre .4 in
+    (S .pre .0, S .pre .1, S .pre .2, S .pre .3, low .second-small, omega (arith, low .second-low, S .pre .2 .there, S .pre .2 .few), S .pre .6)
+
+kept-requires-3 : tie.Need-kept-requires-3
+kept-requires-3 c κs = search needs
 
 returns-2 : tie.Need-returns-2
 returns-2 c =
-    let D = c .before .before .before in
-    let S = D .before .before .before .before in (
-      step-second _ _ _ _ (S .args .s) (c .advanced .result) (c .before .before .if1 .taken) (c .before .if2 .left) (c .advanced .ensures .0) ∙ by-discrepancies D,
-      record { one = pair-mono (S .pre .3 .one) (omega arith); two = c .advanced .ensures .1 },
-    )
+    let E = c .before .before .before .before .before in
+    let S = E .before .before .before .before .before .before in
+    second-advances (S .pre .2) _ _ _ _ (S .pre .4) (S .pre .5) (S .pre .6) (E .before .before .if1 .taken) (E .if2 .left) (c .kept3 .ensures) (c .before .advance .ensures)
 
-advanced-requires-2 : tie.Need-advanced-requires-2
-advanced-requires-2 c κs = search needs
+mul-if3 : tie.Need-mul-if3
+mul-if3 c = search needs
+
+element-copy-out-if3 : tie.Need-element-copy-out-if3
+element-copy-out-if3 c = search needs
+
+advance-requires-2 : tie.Need-advance-requires-2
+advance-requires-2 c κs =
+    let S = c .before .before .before .before .before .before .before .before .before in
+    let low = S .pre .4 in
+    (S .pre .0, S .pre .1, S .pre .2, S .pre .3, low .first-small, omega (arith, low .first-low, S .pre .2 .there, S .pre .2 .few), S .pre .5)
+
+kept-requires-4 : tie.Need-kept-requires-4
+kept-requires-4 c κs = search needs
 
 returns-3 : tie.Need-returns-3
 returns-3 c =
-    let D = c .before .before .before in
-    let S = D .before .before .before .before in (
-      step-first _ _ _ _ (S .args .s) (c .advanced2 .result) (c .before .before .if1 .left) (c .before .if3 .taken) (c .advanced2 .ensures .0) ∙ by-discrepancies D,
-      record { one = c .advanced2 .ensures .1; two = pair-mono (S .pre .3 .two) (omega arith) },
-    )
+    let E = c .before .before .before .before .before in
+    let S = E .before .before .before .before .before .before in
+    first-advances (S .pre .2) _ _ _ _ (S .pre .4) (S .pre .5) (S .pre .6) (E .before .before .if1 .left) (E .if3 .taken) (c .kept4 .ensures) (c .before .advance2 .ensures)
 
-combined-requires : tie.Need-combined-requires
-combined-requires c κs = search needs
-
-advanced-requires-3 : tie.Need-advanced-requires-3
-advanced-requires-3 c κs = search needs
-
-combined-requires-2 : tie.Need-combined-requires-2
-combined-requires-2 c κs = search needs
-
-advanced-requires-4 : tie.Need-advanced-requires-4
-advanced-requires-4 c κs = search needs
+exchange-requires : tie.Need-exchange-requires
+exchange-requires c κs =
+    let S = c .before .before .before .before .before .before .before .before .before .before .before .before .before .before .before in
+    let low = S .pre .4 in
+    let fits = S .pre .2 in
+    (S .pre .0, S .pre .1, fits, S .pre .3, low .first-small, omega (arith, low .first-low, fits .there, fits .few), omega (arith, low .second-low, fits .there, fits .few), S .pre .5, S .pre .6)
 
 returns-4 : tie.Need-returns-4
 returns-4 c =
-    let T = c .before .before in
-    let D = T .before .before .before in
-    let S = D .before .before .before .before in (
-      step-clear-second _ _ _ _ (S .args .s) (c .advanced3 .result) (c .before .combined .result)
-          (T .before .before .if1 .left) (T .before .if3 .left) (T .if4 .taken) (c .advanced3 .ensures .0) (c .before .combined .ensures .0)
-          ∙ by-discrepancies D,
-      record { one = c .advanced3 .ensures .1; two = pair-mono (c .before .combined .ensures .1) (omega arith) },
-    )
+    let T = c .before .before .before .before .before .before .before in
+    let S = T .before .before .before .before .before .before .before .before .before in
+    first-leads (S .pre .2) _ _ _ _ (S .pre .4) (S .pre .5) (S .pre .6) (T .before .before .before .before .before .if1 .left) (T .before .before .before .if3 .left) (T .if4 .taken) (c .exchange .ensures .0) (c .exchange .ensures .1)
+
+exchange-requires-2 : tie.Need-exchange-requires-2
+exchange-requires-2 c κs =
+    let S = c .before .before .before .before .before .before .before .before .before .before .before .before .before .before .before in
+    let low = S .pre .4 in
+    let fits = S .pre .2 in
+    (S .pre .0, S .pre .1, fits, S .pre .3, low .second-small, omega (arith, low .second-low, fits .there, fits .few), omega (arith, low .first-low, fits .there, fits .few), S .pre .6, S .pre .5)
 
 returns-5 : tie.Need-returns-5
 returns-5 c =
-    let T = c .before .before in
-    let D = T .before .before .before in
-    let S = D .before .before .before .before in (
-      step-clear-first _ _ _ _ (S .args .s) (c .advanced4 .result) (c .before .combined2 .result)
-          (T .before .before .if1 .left) (T .before .if3 .left) (T .if4 .left) (c .advanced4 .ensures .0) (c .before .combined2 .ensures .0)
-          ∙ by-discrepancies D,
-      record { one = pair-mono (c .before .combined2 .ensures .1) (omega arith); two = c .advanced4 .ensures .1 },
-    )
+    let X = c .before .before in
+    let T = X .before .before .before .before .before .before .before in
+    let S = T .before .before .before .before .before .before .before .before .before in
+    second-leads (S .pre .2) _ _ _ _ (S .pre .4) (S .pre .5) (S .pre .6) (T .before .before .before .before .before .if1 .left) (T .before .before .before .if3 .left) (T .if4 .left) (X .exchange2 .ensures .0) (X .exchange2 .ensures .1)
 
 pub step-spec : {M : Type 1} → statement M
 step-spec =
     tie.close
     (tie.spec
-    discrepancy-requires
-    discrepancy-requires-2
+    mul-if1
+    element-copy-out-if1
+    mul-if2
+    element-copy-out-if2
+    kept-requires
+    kept-requires-2
     returns
-    advanced-requires
+    advance-requires
+    kept-requires-3
     returns-2
-    advanced-requires-2
+    mul-if3
+    element-copy-out-if3
+    advance-requires-2
+    kept-requires-4
     returns-3
-    combined-requires
-    advanced-requires-3
-    combined-requires-2
-    advanced-requires-4
+    exchange-requires
     returns-4
+    exchange-requires-2
     returns-5)

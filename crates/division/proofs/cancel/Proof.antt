@@ -1,0 +1,105 @@
+use mathlib.Core.Path.{_≡_, refl, sym, ap₂, _∙_}
+use Prim.Native.Nat.{ℕ, _+_, _-_, _*_, _%_, _≤_}
+use native.Mathlib.Omega.{arith}
+use borrow.Author.Needs.{needs}
+use Rattle.field.specs.Primes.{modulusOf}
+use Rattle.poly.specs.Coefficients.{at}
+use Rattle.division.specs.Division.{cancelledAt, cancelledOf}
+use Rattle.division.proofs.Cancellation.{cancelled-below, cancelled-above, cancelled-there, Replaced, replaced-more, replaced-all}
+use Rattle.division.proofs.cancel.Statement.{statement}
+use Rattle.division.proofs.cancel.Tie as tie
+
+abbrev Inv-loop : tie.InvT-loop
+Inv-loop q a₀ k n lb b m j₀ a j = (j ≤ lb) × Replaced (cancelledAt (modulusOf q) k n (b .c) a₀) a₀ (n + j) a
+
+abbrev μ-loop : tie.MeasureT-loop
+μ-loop q a₀ k n lb b m j₀ a j = lb - j
+
+modulus-requires : tie.Need-modulus-requires Inv-loop μ-loop
+modulus-requires c κs = search needs
+
+sub-m : tie.Need-sub-m Inv-loop μ-loop
+sub-m c = omega arith
+
+loop-holds : tie.Need-loop-holds Inv-loop μ-loop
+loop-holds c =
+    let pre = c .before .pre in
+    let a = c .before .args .a .now in (
+      omega arith,
+      record {
+        size = pre .4;
+        done = λ i l. sym (cancelled-below _ _ (c .before .args .n) a _ i (pre .2 .residues i) (omega arith));
+        rest = λ i l. refl;
+      },
+    )
+
+add-place : tie.Need-add-place Inv-loop μ-loop
+add-place c = omega arith
+
+mul-plus-product : tie.Need-mul-plus-product Inv-loop μ-loop
+mul-plus-product c = omega arith
+
+element-copy-out-plus-product : tie.Need-element-copy-out-plus-product Inv-loop μ-loop
+element-copy-out-plus-product c = omega arith
+
+mul-plus-product-2 : tie.Need-mul-plus-product-2 Inv-loop μ-loop
+mul-plus-product-2 c = omega arith
+
+element-copy-out-plus-product-2 : tie.Need-element-copy-out-plus-product-2 Inv-loop μ-loop
+element-copy-out-plus-product-2 c = omega arith
+
+plus-product-requires : tie.Need-plus-product-requires Inv-loop μ-loop
+plus-product-requires c κs = search needs
+
+mul-a : tie.Need-mul-a Inv-loop μ-loop
+mul-a c = omega arith
+
+element-write-a : tie.Need-element-write-a Inv-loop μ-loop
+element-write-a c = search needs
+
+add-j : tie.Need-add-j Inv-loop μ-loop
+add-j c = omega arith
+
+loop-less : tie.Need-loop-less Inv-loop μ-loop
+loop-less c = omega arith
+
+loop-again : tie.Need-loop-again Inv-loop μ-loop
+loop-again c =
+    let a = c .before .before .before .before in
+    let s = a .before .before in
+    let place = s .args .n + a .loop .j in
+    let same : at (a .loop .a) place ≡ at (s .args .a .now) place = a .loop .inv .1 .rest place (omega arith) in
+    let value = c .plus-product .ensures
+    ∙ ap₂ (λ (x t : ℕ). (x + (t - s .args .k) * at (s .args .t5 .c) (a .loop .j)) % modulusOf (s .args .q)) same (a .before .modulus .ensures)
+    ∙ sym (cancelled-there (modulusOf (s .args .q)) (s .args .k) (s .args .n) (s .args .a .now) (s .args .t5 .c) (a .loop .j)) in
+    let next : s .args .n + (a .loop .j + 1) ≡ place + 1 = omega arith in
+    (omega arith, rw next (replaced-more (a .loop .inv .1) (c .plus-product .result) (omega arith) value))
+
+returns : tie.Need-returns Inv-loop μ-loop
+unfolding cancelledOf
+returns c =
+    let pre = c .before .before .before .pre in
+    let end : c .before .loop .j ≡ c .before .before .before .args .lb = omega arith in
+    (replaced-all (c .before .loop .inv .1) (λ i l. cancelled-above _ _ _ _ _ (pre .3) i (pre .2 .residues i) (omega arith)), c .before .loop .inv .1 .size)
+
+pub cancel-spec : {M : Type 1} → statement M
+cancel-spec =
+    tie.close
+    (tie.spec
+    Inv-loop
+    μ-loop
+    modulus-requires
+    sub-m
+    loop-holds
+    add-place
+    mul-plus-product
+    element-copy-out-plus-product
+    mul-plus-product-2
+    element-copy-out-plus-product-2
+    plus-product-requires
+    mul-a
+    element-write-a
+    add-j
+    loop-less
+    loop-again
+    returns)

@@ -1,0 +1,117 @@
+-- The word is that of the rows judged so far.
+use mathlib.Core.Path.{_≡_, refl, sym, ap₂, _∙_}
+use mathlib.Core.Bool.{not}
+use Prim.Native.Nat.{_+_, _-_, _*_, _%_, _≤_}
+use native.Mathlib.Omega.{arith}
+use lib.Dec.{eqb}
+use borrow.Author.Needs.{needs}
+use Rattle.field.specs.Primes.{modulusOf}
+use Rattle.poly.specs.Coefficients.{at}
+use Rattle.evaluation.proofs.Steps.{at-row}
+use Rattle.word.specs.Word.{wordOf, withRow}
+use Rattle.word.proofs.Words.{next-row, row-room, word-same}
+use Rattle.judge.proofs.wrong_values.Statement.{statement}
+use Rattle.judge.proofs.wrong_values.Tie as tie
+
+abbrev Inv-loop : tie.InvT-loop
+Inv-loop i xs gs values q rows fs word₀ r₀ word r =
+    (r ≤ rows) × (word ≡ wordOf r (λ j. not (eqb (at fs j) (at gs j * at values (j * 4 + i) % modulusOf q))))
+
+abbrev μ-loop : tie.MeasureT-loop
+μ-loop i xs gs values q rows fs word₀ r₀ word r = rows - r
+
+numerator-bound-requires : tie.Need-numerator-bound-requires Inv-loop μ-loop
+numerator-bound-requires c κs = search needs
+
+add-values : tie.Need-add-values Inv-loop μ-loop
+add-values c = omega arith
+
+values-requires : tie.Need-values-requires Inv-loop μ-loop
+values-requires c κs =
+    let S = c .before in
+    (S .pre .0, omega arith, rw (c .numerator-bound .ensures) (S .pre .3), S .pre .4)
+
+loop-holds : tie.Need-loop-holds Inv-loop μ-loop
+unfolding wordOf
+loop-holds c = (omega arith, refl)
+
+mul-output-is-wrong : tie.Need-mul-output-is-wrong Inv-loop μ-loop
+mul-output-is-wrong c = omega arith
+
+array-read-output-is-wrong : tie.Need-array-read-output-is-wrong Inv-loop μ-loop
+array-read-output-is-wrong c = omega arith
+
+mul-output-is-wrong-2 : tie.Need-mul-output-is-wrong-2 Inv-loop μ-loop
+mul-output-is-wrong-2 c = omega arith
+
+element-copy-out-output-is-wrong : tie.Need-element-copy-out-output-is-wrong Inv-loop μ-loop
+element-copy-out-output-is-wrong c = omega arith
+
+mul-output-is-wrong-3 : tie.Need-mul-output-is-wrong-3 Inv-loop μ-loop
+mul-output-is-wrong-3 c = omega arith
+
+add-output-is-wrong : tie.Need-add-output-is-wrong Inv-loop μ-loop
+add-output-is-wrong c = omega arith
+
+mul-output-is-wrong-4 : tie.Need-mul-output-is-wrong-4 Inv-loop μ-loop
+mul-output-is-wrong-4 c = omega arith
+
+element-copy-out-output-is-wrong-2 : tie.Need-element-copy-out-output-is-wrong-2 Inv-loop μ-loop
+element-copy-out-output-is-wrong-2 c = omega arith
+
+output-is-wrong-requires : tie.Need-output-is-wrong-requires Inv-loop μ-loop
+output-is-wrong-requires c κs = search needs
+
+with-row-requires : tie.Need-with-row-requires Inv-loop μ-loop
+with-row-requires c κs =
+    let head = c .before .before .before .before in
+    (omega arith, rw (head .loop .inv .1) (row-room (head .loop .r) _ (omega arith)))
+
+add-r : tie.Need-add-r Inv-loop μ-loop
+add-r c = omega arith
+
+loop-less : tie.Need-loop-less Inv-loop μ-loop
+loop-less c = omega arith
+
+loop-again : tie.Need-loop-again Inv-loop μ-loop
+loop-again c =
+    let head = c .before .before .before .before .before in
+    let r = head .loop .r in
+    let added = c .with-row .ensures ∙ ap₂ (λ word wrong. withRow word r wrong) (head .loop .inv .1) (c .before .output-is-wrong .ensures) in
+    (omega arith, added ∙ sym (next-row r _))
+
+returns : tie.Need-returns Inv-loop μ-loop
+returns c =
+    let head = c .before in
+    let A = head .before .before in
+    let S = A .before .before in
+    let few = S .pre .0 in
+    let all : head .loop .r ≡ S .args .b .rows = omega arith in
+    let judged = rw all at (head .loop .inv .1) in
+    λ points g ex eg. judged
+    ∙ word-same _ _ _ (λ r l. rw (at-row _ points _ (A .values .ensures points ex) few r l, at-row _ points _ eg few r l))
+
+pub wrong-values-spec : {M : Type 1} → statement M
+wrong-values-spec =
+    tie.close
+    (tie.spec
+    Inv-loop
+    μ-loop
+    numerator-bound-requires
+    add-values
+    values-requires
+    loop-holds
+    mul-output-is-wrong
+    array-read-output-is-wrong
+    mul-output-is-wrong-2
+    element-copy-out-output-is-wrong
+    mul-output-is-wrong-3
+    add-output-is-wrong
+    mul-output-is-wrong-4
+    element-copy-out-output-is-wrong-2
+    output-is-wrong-requires
+    with-row-requires
+    add-r
+    loop-less
+    loop-again
+    returns)

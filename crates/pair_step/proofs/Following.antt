@@ -1,0 +1,104 @@
+-- The pairs that arrays hold after a step, and that the discrepancies follow them.
+use mathlib.Core.Path.{_≡_, refl, sym, ap, ap₂, _∙_}
+use mathlib.Core.List.{List}
+use Prim.Native.Nat.{ℕ, _+_, _-_, _*_, _%_, _≤_, _<_}
+use native.Mathlib.Decide.{decLt}
+use native.Mathlib.Omega.{arith}
+use lib.ListN.{replicate}
+use Rattle.montgomery.specs.Reduction.{formOf}
+use Rattle.poly.specs.Coefficients.{at}
+use Rattle.poly.specs.Operations.{timesLinearOf, combinationAt, combinationOf}
+use Rattle.poly.specs.Vectors.{onePoly, zeroPoly}
+use Rattle.poly.proofs.Lists.{at-past, bounded-zeros}
+use Rattle.lanes.proofs.Changes.{splat}
+use Rattle.evaluation.specs.Values.{Narrow}
+use Rattle.pair_step.specs.Pairs.{Pairs, PairShort, discrepancyOf, advancedOf, combinedOf, startOf}
+use Rattle.pair_step.proofs.PairLaws.{pair-is, bounded-one}
+use Rattle.pair_step.proofs.Discrepancies.{discrepancy-advanced, discrepancy-combined, discrepancy-first, discrepancy-second}
+use Rattle.pair_step.specs.declared.Row.{Row}
+use Rattle.pair_step.specs.declared.Sides.{Sides}
+use Rattle.pair_step.specs.declared.Side.{Side}
+use Rattle.pair_step.specs.Held.{Holds, PairHeld, primeAt, Advanced, Cleared, Kept, Stepped, pairOf, pairsOf}
+
+pub advanced-is : (p x e : ℕ) (a b : List ℕ) {la lb : List ℕ} → la ≡ timesLinearOf p x a → lb ≡ timesLinearOf p x b
+    → pairOf la lb (e + 1) ≡ advancedOf p x (pairOf a b e)
+unfolding advancedOf
+advanced-is p x e a b {la} {lb} ea eb = pair-is (record { c = la }) (record { c = lb }) (e + 1) ea eb
+
+pub combined-is : (p d c e f : ℕ) (a b s t : List ℕ) {la lb : List ℕ} → la ≡ combinationOf p d a c s → lb ≡ combinationOf p d b c t
+    → pairOf la lb e ≡ combinedOf p d (pairOf a b e) c (pairOf s t f)
+unfolding combinedOf
+combined-is p d c e f a b s t {la} {lb} ea eb = pair-is (record { c = la }) (record { c = lb }) e ea eb
+
+held-short : {p n : ℕ} {a b : List ℕ} (e m : ℕ) → n ≤ m → PairHeld p n a b → PairShort m (pairOf a b e)
+held-short e m l h = record { left = λ k g. h .left .bounded .within k (omega arith); right = λ k g. h .right .bounded .within k (omega arith) }
+
+-- the pair times (u - x)
+pub follow-advanced : {r : Row} {ps vs xs a b d a′ b′ d′ : List ℕ} {s s′ : Side} → Advanced r ps vs xs s a b d s′ a′ b′ d′ → s .n ≤ 31 → PairHeld (primeAt r) (s .n) a b
+    → (e l y z : ℕ) → r .index ≤ l → l < r .rows → at xs l ≡ formOf (primeAt r) y
+    → at d l ≡ discrepancyOf (primeAt r) y z (pairOf a b e) → at d′ l ≡ discrepancyOf (primeAt r) y z (pairOf a′ b′ (e + 1))
+follow-advanced {r} {a = a} {b = b} h short held e l y z i g form ed =
+    h .each l y i g form
+    ∙ ap (λ v. (y + (primeAt r - r .point)) * v % primeAt r) ed
+    ∙ sym
+    (ap (discrepancyOf (primeAt r) y z) (advanced-is (primeAt r) (r .point) e a b (h .left) (h .right))
+    ∙ discrepancy-advanced (primeAt r) y z (r .point) (pairOf a b e) (held-short e 31 short held))
+
+-- the pair less a multiple of the other
+pub follow-cleared : {r : Row} {n : ℕ} {ps a b d s t e s′ t′ e′ : List ℕ} {u u′ : Side} → Cleared r ps n a b d u s t e u′ s′ t′ e′ → n ≤ 31
+    → PairHeld (primeAt r) n a b → PairHeld (primeAt r) n s t
+    → (f g l y z : ℕ) → r .index ≤ l → l < r .rows
+    → at d l ≡ discrepancyOf (primeAt r) y z (pairOf a b f) → at e l ≡ discrepancyOf (primeAt r) y z (pairOf s t g)
+    → at e′ l ≡ discrepancyOf (primeAt r) y z (pairOf s′ t′ g)
+unfolding combinationAt
+follow-cleared {r} {a = a} {b = b} {d = d} {s = s} {t = t} {e = e} h short held other f g l y z i k ed ee =
+    let m = at d (r .index) in
+    let c = at e (r .index) in
+    h .each l i k
+    ∙ ap₂ (λ v w. (m * v + (primeAt r - c) * w) % primeAt r) ee ed
+    ∙ sym
+    (ap (discrepancyOf (primeAt r) y z) (combined-is (primeAt r) m c g f s t a b (h .left) (h .right))
+    ∙ discrepancy-combined (primeAt r) y z m c (pairOf s t g) (pairOf a b f) (held-short g 32 (omega arith) other) (held-short f 32 (omega arith) held))
+
+-- the arrays before the first row
+pub start-is : (A B : ℕ) {a0 b0 a1 b1 : List ℕ} → a0 ≡ onePoly .c → b0 ≡ zeroPoly .c → a1 ≡ zeroPoly .c → b1 ≡ onePoly .c
+    → pairsOf (pairOf a0 b0 B) (pairOf a1 b1 A) ≡ startOf A B
+unfolding startOf
+start-is A B e0 f0 e1 f1 = rw (e0, f0, e1, f1)
+
+pub start-held : {p : ℕ} {a b : List ℕ} → 1 < p → a ≡ onePoly .c → b ≡ zeroPoly .c → PairHeld p 1 a b × PairHeld p 1 b a
+start-held {p} {a} {b} l ea eb = (record { left = one; right = none }, record { left = none; right = one })
+  where
+    one : Holds p 1 a
+    one = rw ea (record { bounded = bounded-one p l; size = refl })
+
+    none : Holds p 1 b
+    none = rw eb (record { bounded = bounded-zeros p 1 32 (omega arith); size = refl })
+
+pub ones-narrow : {p : ℕ} → 1 < p → Narrow p (replicate 32 1)
+ones-narrow {p} l = record { size = refl; below = λ k. go k (decLt k 32) }
+  where
+    go : (k : ℕ) → Dec (k < 32) → at (replicate 32 1) k < p
+    go k (yes h) = rw (splat 1 k h) l
+    go k (no h) = let z = at-past (replicate 32 1) k (omega arith) in omega arith
+
+pub start-kept : {p : ℕ} (points z d : List ℕ) (rows A B : ℕ) {s : Pairs} → rows ≤ 31 → 1 < p → s ≡ startOf A B
+    → ((k : ℕ) → k < rows → at d k ≡ (0 + (p - at z k)) % p)
+    → Kept p points z 0 rows (s .first) (replicate 32 1) × Kept p points z 0 rows (s .second) d
+start-kept {p} points z d rows A B {s} few l es ed = (
+  λ k i h. splat 1 k (omega arith) ∙ sym (ap (λ (t : Pairs). discrepancyOf p (at points k) (at z k) (t .first)) es ∙ discrepancy-first p _ _ A B l),
+  λ k i h. ed k h ∙ ap (λ n. n % p) (omega arith) ∙ sym (ap (λ (t : Pairs). discrepancyOf p (at points k) (at z k) (t .second)) es ∙ discrepancy-second p _ _ A B l),
+)
+
+-- from one row to the next
+pub kept-step : {r : Row} {ps vs xs : List ℕ} {s s′ : Sides} {a0 b0 d0 a1 b1 d1 a0′ b0′ d0′ a1′ b1′ d1′ : List ℕ}
+    → Stepped r ps vs xs s a0 b0 d0 a1 b1 d1 s′ a0′ b0′ d0′ a1′ b1′ d1′
+    → (points z : List ℕ) → ((l : ℕ) → l < r .rows → at xs l ≡ formOf (primeAt r) (at points l))
+    → Kept (primeAt r) points z (r .index) (r .rows) (pairOf a0 b0 (s .first .e)) d0
+    → Kept (primeAt r) points z (r .index) (r .rows) (pairOf a1 b1 (s .second .e)) d1
+    → Kept (primeAt r) points z (r .index + 1) (r .rows) (pairOf a0′ b0′ (s′ .first .e)) d0′
+    × Kept (primeAt r) points z (r .index + 1) (r .rows) (pairOf a1′ b1′ (s′ .second .e)) d1′
+kept-step h points z form first second = (
+  λ l i g. h .followed l _ _ (omega arith) g (form l g) (first l (omega arith) g) (second l (omega arith) g) .0,
+  λ l i g. h .followed l _ _ (omega arith) g (form l g) (first l (omega arith) g) (second l (omega arith) g) .1,
+)
