@@ -6,8 +6,8 @@ ghost use Rattle.column.specs.Sizes.{Sized, primeOf};
 ghost use Rattle.evaluation.specs.Values.{formsOf};
 ghost use Rattle.extension.specs.Extensions.{Fitting};
 ghost use Rattle.candidate.specs.Candidates.{startCandidate, nextOf, candidateAfter, Table};
-use extension::Candidate;
 use format::Bounds;
+use vector::Candidate;
 
 fn start() -> Candidate
     ensures { λ r. ⌜ r ≡ startCandidate ⌝ }
@@ -43,7 +43,7 @@ fn next(
     let phi = s.a;
     let psi = s.b;
     if poly::length(rows + 1, psi) == 0 {
-        return extension::unsolvable();
+        return vector::unsolvable();
     }
     let t = fraction::lowest_terms(prime, rows + 1, phi, psi);
     let numerator = t.numerator;

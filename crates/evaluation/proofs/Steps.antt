@@ -12,15 +12,14 @@ use borrow.Author.Tests.{lt-ltb, le-ltb}
 use Rattle.field.specs.declared.Prime.{Prime}
 use Rattle.field.specs.Primes.{modulusOf}
 use Rattle.field.proofs.Moduli.{modulus-positive, residue-below}
-use Rattle.montgomery.specs.Reduction.{formOf}
+use Rattle.montgomery.specs.Factors.{formOf}
 use Rattle.poly.specs.Coefficients.{at, tabulate}
 use Rattle.poly.specs.Operations.{valueOf}
 use Rattle.poly.proofs.Lists.{at-tabulate, at-past, at-zeros, is-tabulate, length-tabulate, bounded-tabulate}
 use Rattle.poly.proofs.Values.{value-more, value-start}
-use Rattle.lanes.specs.Lanes.{groupsOf, modulusAt, Constants, Inverses, replaced}
+use Rattle.lanes.specs.Lanes.{groupsOf, modulusAt, Constants, Inverses, replaced, hornerLane}
 use Rattle.lanes.proofs.Changes.{replaced-inside, replaced-behind, length-replaced}
-use Rattle.point_lanes.specs.Points.{hornerLane}
-use Rattle.point_lanes.proofs.Entries.{horner-lane}
+use Rattle.lanes_meaning.proofs.Meaning.{horner-lane}
 use Rattle.evaluation.specs.Values.{eachPoint, formsOf, valuesOf, Narrow, Formed}
 
 module _ (f : ℕ → ℕ) (points : List ℕ) (rows : ℕ) where

@@ -5,7 +5,7 @@ use mathlib.Core.List.{List}
 use Prim.Native.Nat.{ℕ, _<_}
 use lib.Dec.{ltb}
 use lib.ListN.{length}
-use Rattle.montgomery.specs.Reduction.{formOf}
+use Rattle.montgomery.specs.Factors.{formOf}
 use Rattle.lanes.specs.Lanes.{groupsOf}
 use Rattle.poly.specs.Coefficients.{at, tabulate}
 use Rattle.poly.specs.Operations.{valueOf}

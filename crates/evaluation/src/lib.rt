@@ -31,13 +31,13 @@ pub fn values(q: Prime, xs: &[u16; 32], rows: usize, n: usize, a: Poly) -> PerRo
     requires { ⌜ (rows ≤ 32) × (n ≤ 32) × Bounded (modulusOf q) n (a .c) × Formed (modulusOf q) (now xs) rows ⌝ }
     ensures { λ r. ⌜ Evaluated (modulusOf q) (now (xs .entry)) rows (a .c) (r .v) ⌝ }
 {
-    let ps = [montgomery::modulus(q); 32];
+    let ps = [field::modulus(q) as u16; 32];
     let vs = [montgomery::inverse(q); 32];
     let mut v = [0u16; 32];
     let mut k = n;
     while 0 < k {
         k -= 1;
-        point_lanes::horner(&ps, &vs, rows, xs, &mut v, a.c[k] as u16);
+        lane_horner::horner(&ps, &vs, rows, xs, &mut v, a.c[k] as u16);
     }
     PerRow { v: v }
 }

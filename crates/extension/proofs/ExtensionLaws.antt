@@ -1,34 +1,26 @@
 -- What the code's steps make of a candidate is what the definitions say.
-use mathlib.Core.Path.{_≡_, refl, sym, ap, ap₂, subst, _∙_}
+use mathlib.Core.Path.{_≡_, refl, sym, ap, subst, _∙_}
 use mathlib.Core.Bool.{Bool, true, false, _&&_}
 use mathlib.Core.List.{List, []}
 use Prim.Native.Nat.{ℕ, zero, suc, _+_, _≤_, _<_}
 use native.Mathlib.Numerals.{add-one}
 use native.Mathlib.Omega.{arith}
 use lib.Dec.{ltb}
-use lib.ListN.{length, getD, set, replicate}
+use lib.ListN.{length, getD, set}
 use lib.Seq.{set-getD}
 use borrow.Author.Tests.{lt-ltb, le-ltb}
 use Rattle.format.specs.declared.Bounds.{Bounds}
 use Rattle.format.specs.Bounds.{numeratorBoundOf}
 use Rattle.poly.specs.declared.Poly.{Poly}
 use Rattle.poly.specs.Coefficients.{at, Bounded}
-use Rattle.poly.specs.Vectors.{zeroPoly}
 use Rattle.poly.specs.Operations.{lengthOf, productOf}
 use Rattle.poly.proofs.Lengths.{length-at-most}
 use Rattle.poly_product.proofs.Products.{product-one}
-use Rattle.pair_step.specs.Pairs.{choose}
+use Rattle.pairs.specs.Pairs.{choose}
 use Rattle.column.specs.Sizes.{primeOf}
-use Rattle.extension.specs.declared.Candidate.{Candidate}
-use Rattle.extension.specs.Extensions.{numeratorAt, Fitting, unsolvableCandidate, raisedAt, raisedBelow, withOutput, extendedOf}
-
--- both candidates that the code writes down
-pub candidate-is : (solvable : Bool) (g none : Poly) {lg : List ℕ} → g .c ≡ lg → none .c ≡ zeroPoly .c
-    → _≡_ {A = Candidate} (record { solvable = solvable; g = g; f = replicate 4 none })
-    (record { solvable = solvable; g = record { c = lg }; f = replicate 4 zeroPoly })
-candidate-is solvable g none eg en =
-    ap₂ (λ (x y : Poly). record { solvable = solvable; g = x; f = replicate 4 y })
-    (ap (λ (l : List ℕ). record { c = l }) eg) (ap (λ (l : List ℕ). record { c = l }) en)
+use Rattle.vector.specs.declared.Candidate.{Candidate}
+use Rattle.extension.specs.Extensions.{numeratorAt, Fitting, raisedAt, raisedBelow, withOutput, extendedOf}
+use Rattle.vector.specs.Vector.{unsolvableCandidate}
 
 -- one numerator times h
 module _ (b : Bounds) (h : List ℕ) (j : ℕ) (c : Candidate) where

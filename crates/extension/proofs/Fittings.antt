@@ -24,8 +24,9 @@ use Rattle.poly.proofs.Lists.{bounded-mono, bounded-zeros, bounded-tabulate}
 use Rattle.poly.proofs.Bounds.{zero-remainder}
 use Rattle.poly_product.proofs.Products.{terms, terms-after, sum-zeros, bounded-product}
 use Rattle.column.specs.Sizes.{primeOf}
-use Rattle.extension.specs.declared.Candidate.{Candidate}
-use Rattle.extension.specs.Extensions.{Fitting, unsolvableCandidate}
+use Rattle.vector.specs.declared.Candidate.{Candidate}
+use Rattle.extension.specs.Extensions.{Fitting}
+use Rattle.vector.specs.Vector.{unsolvableCandidate}
 
 -- a times h keeps to a bound that the sum of their lengths keeps to, also where a is zero
 pub bounded-raised : {p la lh n : ℕ} {a h : List ℕ} → 0 < p → Bounded p la a → Bounded p lh h → (0 < la → la + lh ≤ n + 1) → Bounded p n (productOf p a h)

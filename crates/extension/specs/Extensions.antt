@@ -1,18 +1,19 @@
 -- A candidate with one output more, as the code makes it.
-use mathlib.Core.Bool.{false, _&&_}
+use mathlib.Core.Bool.{_&&_}
 use mathlib.Core.Path.{_≡_}
 use mathlib.Core.List.{List}
 use Prim.Native.Nat.{ℕ, zero, suc, _+_}
 use lib.Dec.{ltb}
-use lib.ListN.{set, replicate, length}
+use lib.ListN.{set, length}
 use Rattle.format.specs.declared.Bounds.{Bounds}
 use Rattle.format.specs.Bounds.{numeratorBoundOf}
 use Rattle.poly.specs.Coefficients.{Bounded}
-use Rattle.poly.specs.Vectors.{zeroPoly, coefficientsAt}
+use Rattle.poly.specs.Vectors.{coefficientsAt}
 use Rattle.poly.specs.Operations.{lengthOf, productOf}
-use Rattle.pair_step.specs.Pairs.{choose}
+use Rattle.pairs.specs.Pairs.{choose}
 use Rattle.column.specs.Sizes.{primeOf}
-use Rattle.extension.specs.declared.Candidate.{Candidate}
+use Rattle.vector.specs.declared.Candidate.{Candidate}
+use Rattle.vector.specs.Vector.{unsolvableCandidate}
 
 -- the numerator of output j
 abbrev pub numeratorAt : Candidate → ℕ → List ℕ
@@ -23,10 +24,6 @@ pub record Fitting (b : Bounds) (c : Candidate) : Type 0 where
   pub size : length (c .f) ≡ 4
   pub denominator : Bounded (primeOf b) (b .denominator + 1) (c .g .c)
   pub numerators : (j : ℕ) → Bounded (primeOf b) (numeratorBoundOf b j + 1) (numeratorAt c j)
-
--- there is no answer
-unfoldable pub unsolvableCandidate : Candidate
-unsolvableCandidate = record { solvable = false; g = zeroPoly; f = replicate 4 zeroPoly }
 
 -- the numerator of output j times h
 unfoldable pub raisedAt : Bounds → List ℕ → ℕ → Candidate → Candidate

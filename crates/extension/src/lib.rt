@@ -1,31 +1,14 @@
-// A candidate, and the candidate with one output more: its fraction a / h, and every earlier numerator times h.
+// A candidate with one output more: its fraction a / h, and every earlier numerator times h.
 ghost use Prim.Native.Nat.{_≤_, _<_};
 ghost use mathlib.Core.Path.{_≡_};
 ghost use Rattle.field.specs.Primes.{modulusOf};
 ghost use Rattle.poly.specs.Coefficients.{Bounded};
 ghost use Rattle.poly.specs.Operations.{lengthOf};
 ghost use Rattle.column.specs.Sizes.{Sized};
-ghost use Rattle.extension.specs.Extensions.{unsolvableCandidate, raisedAt, raisedBelow, extendedOf, Fitting};
+ghost use Rattle.extension.specs.Extensions.{raisedAt, raisedBelow, extendedOf, Fitting};
 use format::Bounds;
 use poly::Poly;
-
-// The common denominator g, and the numerators of the outputs done; the others are zero.
-pub struct Candidate {
-    pub solvable: bool,
-    pub g: Poly,
-    pub f: [Poly; 4],
-}
-
-pub fn unsolvable() -> Candidate
-    ensures { λ r. ⌜ r ≡ unsolvableCandidate ⌝ }
-{
-    let none = poly::zero();
-    Candidate {
-        solvable: false,
-        g: none,
-        f: [none; 4],
-    }
-}
+use vector::Candidate;
 
 // The numerator of output j times h; no answer, if that is too long.
 fn raised_at(b: Bounds, c: Candidate, j: usize, h: Poly, lh: usize) -> Candidate
@@ -38,7 +21,7 @@ fn raised_at(b: Bounds, c: Candidate, j: usize, h: Poly, lh: usize) -> Candidate
     let l = poly::length(bound + 1, f);
     if 0 < l {
         if bound + 2 < l + lh {
-            return unsolvable();
+            return vector::unsolvable();
         }
     }
     let mut r = c;
@@ -70,7 +53,7 @@ pub fn extended(b: Bounds, c: Candidate, i: usize, n: usize, a: Poly, h: Poly) -
     let la = poly::length(n, a);
     let lh = poly::length(n, h);
     if b.numerator_bound(i) + 1 < la {
-        return unsolvable();
+        return vector::unsolvable();
     }
     if lh == 1 {
         if h.c[0] == 1 {
@@ -86,7 +69,7 @@ pub fn extended(b: Bounds, c: Candidate, i: usize, n: usize, a: Poly, h: Poly) -
     let g = c.g;
     let lg = poly::length(bound + 1, g);
     if bound + 2 < lg + lh {
-        return unsolvable();
+        return vector::unsolvable();
     }
     let mut r = raised(b, c, i, h, lh);
     if r.solvable {

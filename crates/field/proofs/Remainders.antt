@@ -1,7 +1,7 @@
 -- Laws of remainders that the library of numbers lacks.
-use Prim.Native.Nat.{ℕ, _+_, _*_, _/_, _%_, _<_, _^_}
+use Prim.Native.Nat.{ℕ, _+_, _*_, _/_, _%_, _≤_, _<_, _^_}
 use mathlib.Core.Path.{_≡_, sym, ap, _∙_}
-use native.Mathlib.Nat.{add-mul-mod-self-right, div-add-mod', le-of-lt, lt-of-le-of-lt, mul-comm, mul-le-mul-left, mul-lt-mul-of-pos-right}
+use native.Mathlib.Nat.{add-mul-mod-self-right, div-add-mod', le-of-lt, lt-of-le-of-lt, mul-comm, mul-le-mul, mul-le-mul-left, mul-lt-mul-of-pos-right}
 use native.Mathlib.Omega.{arith}
 use lib.Pow.{pow-pos}
 
@@ -22,3 +22,9 @@ same-remainder p a m b n e = sym (add-mul-mod-self-right a m p) ∙ ap (λ x. x 
 pub product-fits : {a b : ℕ} → a < 2 ^ 32 → b < 2 ^ 32 → a * b < 2 ^ 64
 product-fits {a} {b} ha hb =
     lt-of-le-of-lt (mul-le-mul-left a (le-of-lt hb)) (mul-lt-mul-of-pos-right ha (pow-pos 32))
+
+-- a product of two numbers of 16 bits
+pub product-of-halves : {x y : ℕ} → x < 65536 → y < 65536 → x * y < 4294967296
+product-of-halves {x} {y} hx hy =
+    let h : x * y ≤ 65535 * 65535 = mul-le-mul {n₂ = 65535} {m₂ = 65535} (omega arith) (omega arith) in
+    omega arith

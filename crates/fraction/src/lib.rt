@@ -32,7 +32,7 @@ pub fn lowest_terms(q: Prime, n: usize, phi: Poly, psi: Poly) -> Fraction
     let lh = poly::length(n, denominator);
     let k = reciprocal::reciprocal(q, denominator.c[lh - 1]);
     Fraction {
-        numerator: poly_product::scaled(q, n, k, numerator),
-        denominator: poly_product::scaled(q, n, k, denominator),
+        numerator: poly_scaled::scaled(q, n, k, numerator),
+        denominator: poly_scaled::scaled(q, n, k, denominator),
     }
 }

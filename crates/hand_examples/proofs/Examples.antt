@@ -33,9 +33,10 @@ use Rattle.division.specs.Division.{
 }
 use Rattle.euclid.specs.Euclid.{gcdFrom, gcdOf}
 use Rattle.fraction.specs.LowestTerms.{unitOf, numeratorOf, denominatorOf}
-use Rattle.pair_step.specs.Pairs.{discrepancyOf, advancedOf, combinedOf, stepBy, startOf, pairsAfter, smallerOf}
+use Rattle.pairs.specs.Pairs.{discrepancyOf, advancedOf, combinedOf, stepBy, startOf, pairsAfter, smallerOf}
 use Rattle.column.specs.Columns.{columnAt, columnOf}
-use Rattle.extension.specs.Extensions.{unsolvableCandidate, raisedAt, raisedBelow, withOutput, extendedOf}
+use Rattle.extension.specs.Extensions.{raisedAt, raisedBelow, withOutput, extendedOf}
+use Rattle.vector.specs.Vector.{unsolvableCandidate}
 use Rattle.candidate.specs.Candidates.{startCandidate, withFraction, nextOf, candidateAfter}
 use Rattle.cursor.specs.Bits.{headerOf}
 use Rattle.header.specs.Header.{boundsOf, spareBitOf}

@@ -7,40 +7,67 @@ ghost use lib.ListN.{length};
 ghost use Rattle.field.specs.Primes.{modulusOf};
 ghost use Rattle.poly.specs.Coefficients.{at};
 ghost use Rattle.poly.specs.Vectors.{onePoly, zeroPoly};
-ghost use Rattle.pair_step.specs.Pairs.{PairBounded, Conditions, pairsAfter, solutionOf};
+ghost use Rattle.pairs.specs.Pairs.{PairBounded, Conditions, pairsAfter, solutionOf};
 ghost use Rattle.evaluation.specs.Values.{formsOf, Narrow};
 ghost use Rattle.pair_step.specs.Held.{PairHeld, pairOf, pairsOf};
+ghost use Rattle.interpolation.specs.Start.{sidesAtStart, rowAt};
 use evaluation::PerRow;
 use field::Prime;
 use montgomery::Factor;
-use pair_step::Pair;
 use pair_step::Row;
 use pair_step::Side;
 use pair_step::Sides;
+use pairs::Pair;
 use poly::Poly;
 
 // - z at each row: the discrepancies of the pair (0, 1).
-fn negations(q: Prime, z: &[u32; 32], rows: usize) -> PerRow
-    requires { ⌜ (rows ≤ 32) × ((k : ℕ) → at (now z) k < modulusOf q) ⌝ }
-    ensures { λ r. ⌜ ((k : ℕ) → k < rows → at (r .v) k ≡ (0 + (modulusOf q - at (now (z .entry)) k)) % modulusOf q) × Narrow (modulusOf q) (r .v) ⌝ }
+fn negations(p: u16, z: &[u32; 32], rows: usize) -> PerRow
+    requires { ⌜ (rows ≤ 32) × ((k : ℕ) → at (now z) k < p) ⌝ }
+    ensures { λ r. ⌜ ((k : ℕ) → k < rows → at (r .v) k ≡ (0 + (p - at (now (z .entry)) k)) % p) × Narrow p (r .v) ⌝ }
 {
-    let p = montgomery::modulus(q);
     let mut r = PerRow { v: [0u16; 32] };
     for k in 0..rows {
-        r.v[k] = montgomery::difference(p, 0, z[k] as u16);
+        r.v[k] = reduction::difference(p, 0, z[k] as u16);
     }
     r
 }
 
-// A pair of constants with the number e, before the first row.
-fn started(e: usize) -> Side
-    ensures { λ r. ⌜ r ≡ record { e = e; n = 1; coefficients = 0; discrepancies = 0 } ⌝ }
+// Two pairs of constants with the numbers `first` and `second`, before the first row.
+fn started(first: usize, second: usize) -> Sides
+    ensures { λ r. ⌜ r ≡ sidesAtStart first second ⌝ }
 {
-    Side {
-        e: e,
-        n: 1,
-        coefficients: 0,
-        discrepancies: 0,
+    Sides {
+        first: Side {
+            e: first,
+            n: 1,
+            coefficients: 0,
+            discrepancies: 0,
+        },
+        second: Side {
+            e: second,
+            n: 1,
+            coefficients: 0,
+            discrepancies: 0,
+        },
+    }
+}
+
+// Row k, where v is the reciprocal of the prime modulo 2^16.
+fn row(q: Prime, v: u16, points: &[u32; 32], xs: &[u16; 32], rows: usize, k: usize) -> Row
+    requires { ⌜ k < 32 ⌝ }
+    ensures { λ r. ⌜ r ≡ rowAt q v (now (points .entry)) (now (xs .entry)) rows k ⌝ }
+{
+    let form = xs[k];
+    let low = montgomery::low(form, v);
+    Row {
+        prime: q,
+        index: k,
+        rows: rows,
+        point: points[k],
+        x: Factor {
+            form: form,
+            low: low,
+        },
     }
 }
 
@@ -65,28 +92,18 @@ fn after_rows(
         ≡ pairsAfter (modulusOf q) (now (points .entry)) (now (z .entry)) (start .second .e) (start .first .e) rows)
         × PairHeld (modulusOf q) (rows + 1) (now (a0 .exit)) (now (b0 .exit)) × PairHeld (modulusOf q) (rows + 1) (now (a1 .exit)) (now (b1 .exit)) ⌝ }
 {
-    let ps = [montgomery::modulus(q); 32];
+    let p = field::modulus(q) as u16;
+    let ps = [p; 32];
     let v = montgomery::inverse(q);
     let vs = [v; 32];
     // (1, 0) has the discrepancy 1 at every row, and would have c where a condition were c a(x) = z b(x).
     let mut d0 = [1u16; 32];
-    let negated = negations(q, z, rows);
+    let negated = negations(p, z, rows);
     let mut d1 = negated.v;
     let mut s = start;
     for k in 0..rows {
-        let form = xs[k];
-        let x = Factor {
-            form: form,
-            low: montgomery::low(form, v),
-        };
-        let row = Row {
-            prime: q,
-            index: k,
-            rows: rows,
-            point: points[k],
-            x: x,
-        };
-        s = pair_step::step(&ps, &vs, row, xs, s, a0, b0, &mut d0, a1, b1, &mut d1);
+        let here = row(q, v, points, xs, rows, k);
+        s = pair_step::step(&ps, &vs, here, xs, s, a0, b0, &mut d0, a1, b1, &mut d1);
     }
     s
 }
@@ -100,6 +117,17 @@ fn widened(a: &[u16; 32]) -> Poly
         r.c[k] = a[k] as u32;
     }
     r
+}
+
+fn paired(a: &[u16; 32], b: &[u16; 32], e: usize) -> Pair
+    requires { ⌜ (length (now a) ≡ 32) × ((k : ℕ) → at (now a) k < 65536) × (length (now b) ≡ 32) × ((k : ℕ) → at (now b) k < 65536) ⌝ }
+    ensures { λ r. ⌜ r ≡ pairOf (now (a .entry)) (now (b .entry)) e ⌝ }
+{
+    Pair {
+        a: widened(a),
+        b: widened(b),
+        e: e,
+    }
 }
 
 // The pair with the smaller number. Beside the points stand their forms, which all outputs share.
@@ -122,37 +150,23 @@ pub fn solution(
     let mut b1 = [0u16; 32];
     a0[0] = 1;
     b1[0] = 1;
-    let start = Sides {
-        first: started(bound_b),
-        second: started(bound_a),
-    };
     let s = after_rows(
         q,
         points,
         xs,
         z,
         rows,
-        start,
+        started(bound_b, bound_a),
         &mut a0,
         &mut b0,
         &mut a1,
         &mut b1,
     );
-    let first = s.first;
-    let second = s.second;
-    let e0 = first.e;
-    let e1 = second.e;
+    let e0 = s.first.e;
+    let e1 = s.second.e;
     if e0 <= e1 {
-        Pair {
-            a: widened(&a0),
-            b: widened(&b0),
-            e: e0,
-        }
+        paired(&a0, &b0, e0)
     } else {
-        Pair {
-            a: widened(&a1),
-            b: widened(&b1),
-            e: e1,
-        }
+        paired(&a1, &b1, e1)
     }
 }

@@ -3,7 +3,7 @@ use mathlib.Core.Path.{_≡_, refl, sym, subst, _∙_}
 use mathlib.Core.Bool.{cond, _&&_}
 use mathlib.Core.List.{List, _∷_}
 use mathlib.Core.Logic.{⊎-elim}
-use Prim.Native.Nat.{ℕ, _+_, _-_, _%_, _≤_, _<_}
+use Prim.Native.Nat.{ℕ, _+_, _-_, _*_, _%_, _≤_, _<_}
 use native.Mathlib.Nat.{eq-or-lt-of-le, mod-lt}
 use native.Mathlib.Decide.{decLt}
 use native.Mathlib.Omega.{arith}
@@ -13,9 +13,9 @@ use lib.Seq.{getD-set-same, getD-set-other}
 use borrow.Author.Tests.{lt-ltb, le-ltb, le-leb, lt-leb}
 use Rattle.poly.specs.Coefficients.{at}
 use Rattle.poly.proofs.Lists.{is-tabulate, length-tabulate, at-tabulate}
-use Rattle.montgomery.specs.Reduction.{reducedOf}
+use Rattle.reduction.specs.Reduction.{reducedOf}
 use Rattle.montgomery.specs.declared.Factor.{Factor}
-use Rattle.lanes.specs.Lanes.{modulusAt, Moduli, replaced, combinedLane, linearLane}
+use Rattle.lanes.specs.Lanes.{modulusAt, Moduli, replaced, combinedLane, linearLane, differenceLane, hornerLane}
 
 pub record Changed (f : ℕ → ℕ) (start k : ℕ) (old a : List ℕ) : Type 0 where
   pub size : length a ≡ 32
@@ -78,6 +78,9 @@ module _ {ps : List ℕ} (m : Moduli ps) (k : ℕ) (l : k < 32) where
   pub splat-below : {x : ℕ} → x < modulusAt ps → at (replicate 32 x) k < at ps k
   splat-below {x} h = rw (splat x k l) (below-lane h)
 
+  pub splat-most : {x : ℕ} → x ≤ modulusAt ps → at (replicate 32 x) k ≤ at ps k
+  splat-most {x} h = rw (splat x k l, m .each k l) h
+
 -- a reduction is a residue
 pub reduced-below : (p form low a : ℕ) {r : ℕ} → 0 < p → r ≡ reducedOf p form low a → r < p
 unfolding reducedOf
@@ -98,3 +101,13 @@ module _ (ps a : List ℕ) (k : ℕ) where
       → x ≡ at a k → u ≡ reducedOf (at ps k) df dl x → r ≡ (lower + (at ps k - u)) % at ps k → r ≡ linearLane ps f a k
   unfolding linearLane
   linear-is f e1 e2 el ex eu er = rw (er, el, eu, e1, e2, ex)
+
+  pub difference-is : (vs xs : List ℕ) (f : ℕ) {y d l x r : ℕ} → y ≡ f → d ≡ (at xs k + (at ps k - y)) % at ps k → l ≡ d * at vs k % 65536
+      → x ≡ at a k → r ≡ reducedOf (at ps k) d l x → r ≡ differenceLane ps vs xs f a k
+  unfolding differenceLane
+  difference-is vs xs f ey ed el ex er = rw (er, el, ed, ey, ex)
+
+  pub horner-is : (vs xs : List ℕ) (c : ℕ) {m l x u r : ℕ} → m ≡ modulusAt ps - c → l ≡ at xs k * at vs k % 65536 → x ≡ at a k
+      → u ≡ reducedOf (at ps k) (at xs k) l x → r ≡ (u + (at ps k - m)) % at ps k → r ≡ hornerLane ps vs xs a c k
+  unfolding hornerLane
+  horner-is vs xs c em el ex eu er = rw (er, eu, em, el, ex)

@@ -8,7 +8,8 @@ use lib.ListN.{length}
 use Rattle.field.specs.declared.Prime.{Prime}
 use Rattle.field.specs.Primes.{modulusOf}
 use Rattle.montgomery.specs.declared.Factor.{Factor}
-use Rattle.montgomery.specs.Reduction.{inverseOf, reducedOf}
+use Rattle.montgomery.specs.Factors.{inverseOf}
+use Rattle.reduction.specs.Reduction.{reducedOf}
 use Rattle.poly.specs.Coefficients.{at, tabulate}
 
 -- n rounded up to whole groups of eight
@@ -52,3 +53,11 @@ module _ (ps : List ℕ) where
   -- (u - x) a: the entry below less x times the entry
   unfoldable pub linearLane : Factor → List ℕ → ℕ → ℕ
   linearLane x a k = lessBy k (at (0 ∷ a) k) (reducedOf (at ps k) (x .form) (x .low) (at a k))
+
+  -- (x_k - x) a_k, by the forms of x_k and x
+  unfoldable pub differenceLane : (vs xs : List ℕ) (x : ℕ) (a : List ℕ) → ℕ → ℕ
+  differenceLane vs xs x a k = reducedOf (at ps k) (lessBy k (at xs k) x) (lessBy k (at xs k) x * at vs k % 65536) (at a k)
+
+  -- x_k a_k + c, by the form of x_k
+  unfoldable pub hornerLane : (vs xs a : List ℕ) (c : ℕ) → ℕ → ℕ
+  hornerLane vs xs a c k = lessBy k (reducedOf (at ps k) (at xs k) (at xs k * at vs k % 65536) (at a k)) (modulusAt ps - c)

@@ -10,17 +10,15 @@ use Rattle.field.specs.declared.Prime.{Prime}
 use Rattle.field.specs.Primes.{modulusOf}
 use Rattle.field.proofs.Moduli.{modulus-positive, modulus-small}
 use Rattle.montgomery.specs.declared.Factor.{Factor}
-use Rattle.montgomery.specs.Reduction.{formOf, factorOf}
+use Rattle.montgomery.specs.Factors.{formOf, factorOf}
 use Rattle.poly.specs.Coefficients.{at}
 use Rattle.poly.specs.Operations.{timesLinearAt, timesLinearOf, combinationAt, combinationOf}
 use Rattle.poly.proofs.Bounds.{times-linear-past, bounded-times-linear, combination-past, bounded-combination}
 use Rattle.poly.proofs.Lists.{bounded-mono, length-tabulate, Filled}
-use Rattle.pair_step.specs.Pairs.{PairBounded}
-use Rattle.lanes.specs.Lanes.{groupsOf, modulusAt, Constants, Inverses, Residues, replaced, combinedLane, linearLane}
-use Rattle.point_lanes.specs.Points.{differenceLane}
+use Rattle.pairs.specs.Pairs.{PairBounded}
+use Rattle.lanes.specs.Lanes.{groupsOf, modulusAt, Constants, Inverses, Residues, replaced, combinedLane, linearLane, differenceLane}
 use Rattle.lanes.proofs.Changes.{replaced-inside}
-use Rattle.lanes.proofs.Meaning.{whole, residues-replaced, combined-lane, linear-lane, combined-below}
-use Rattle.point_lanes.proofs.Entries.{difference-lane, difference-below}
+use Rattle.lanes_meaning.proofs.Meaning.{whole, residues-replaced, combined-lane, linear-lane, combined-below, difference-lane, difference-below}
 use Rattle.evaluation.specs.Values.{Narrow}
 use Rattle.pair_step.specs.declared.Side.{Side}
 use Rattle.pair_step.specs.Held.{Holds, PairHeld, pairOf}

@@ -1,24 +1,28 @@
 -- The pairs that arrays hold after a step, and that the discrepancies follow them.
 use mathlib.Core.Path.{_≡_, refl, sym, ap, ap₂, _∙_}
+use mathlib.Core.Bool.{Bool, true, false, not}
 use mathlib.Core.List.{List}
 use Prim.Native.Nat.{ℕ, _+_, _-_, _*_, _%_, _≤_, _<_}
 use native.Mathlib.Decide.{decLt}
 use native.Mathlib.Omega.{arith}
+use lib.Dec.{eqb}
 use lib.ListN.{replicate}
-use Rattle.montgomery.specs.Reduction.{formOf}
+use Rattle.montgomery.specs.Factors.{formOf}
 use Rattle.poly.specs.Coefficients.{at}
 use Rattle.poly.specs.Operations.{timesLinearOf, combinationAt, combinationOf}
 use Rattle.poly.specs.Vectors.{onePoly, zeroPoly}
 use Rattle.poly.proofs.Lists.{at-past, bounded-zeros}
 use Rattle.lanes.proofs.Changes.{splat}
 use Rattle.evaluation.specs.Values.{Narrow}
-use Rattle.pair_step.specs.Pairs.{Pairs, PairShort, discrepancyOf, advancedOf, combinedOf, startOf}
-use Rattle.pair_step.proofs.PairLaws.{pair-is, bounded-one}
-use Rattle.pair_step.proofs.Discrepancies.{discrepancy-advanced, discrepancy-combined, discrepancy-first, discrepancy-second}
+use Rattle.pairs.specs.declared.Pair.{Pair}
+use Rattle.pairs.specs.Pairs.{Pairs, PairShort, choose, discrepancyOf, advancedOf, combinedOf, stepBy, startOf}
+use Rattle.pairs.proofs.PairLaws.{pair-is, bounded-one, Reached, reached-step}
+use Rattle.pairs.proofs.Discrepancies.{discrepancy-advanced, discrepancy-combined, discrepancy-first, discrepancy-second}
+use Rattle.pair_step.proofs.Arrays.{held-mono, bounded-held}
 use Rattle.pair_step.specs.declared.Row.{Row}
 use Rattle.pair_step.specs.declared.Sides.{Sides}
 use Rattle.pair_step.specs.declared.Side.{Side}
-use Rattle.pair_step.specs.Held.{Holds, PairHeld, primeAt, Advanced, Cleared, Kept, Stepped, pairOf, pairsOf}
+use Rattle.pair_step.specs.Held.{Holds, PairHeld, primeAt, Advanced, Cleared, Kept, lineOf, firstLeads, Stepped, pairOf, pairsOf}
 
 pub advanced-is : (p x e : ℕ) (a b : List ℕ) {la lb : List ℕ} → la ≡ timesLinearOf p x a → lb ≡ timesLinearOf p x b
     → pairOf la lb (e + 1) ≡ advancedOf p x (pairOf a b e)
@@ -90,15 +94,48 @@ start-kept {p} points z d rows A B {s} few l es ed = (
   λ k i h. ed k h ∙ ap (λ n. n % p) (omega arith) ∙ sym (ap (λ (t : Pairs). discrepancyOf p (at points k) (at z k) (t .second)) es ∙ discrepancy-second p _ _ A B l),
 )
 
+-- both lines together are a step
+lines-step : (t0 t1 t : Bool) (s0 m0 c0 s1 m1 c1 : Pair)
+    → pairsOf (choose t0 s0 (choose t1 m0 (choose t m0 c0))) (choose t1 s1 (choose t0 m1 (choose (not t) m1 c1)))
+    ≡ choose t0 (choose t1 (pairsOf s0 s1) (pairsOf s0 m1)) (choose t1 (pairsOf m0 s1) (choose t (pairsOf m0 c1) (pairsOf c0 m1)))
+lines-step true true t s0 m0 c0 s1 m1 c1 = refl
+lines-step true false t s0 m0 c0 s1 m1 c1 = refl
+lines-step false true t s0 m0 c0 s1 m1 c1 = refl
+lines-step false false true s0 m0 c0 s1 m1 c1 = refl
+lines-step false false false s0 m0 c0 s1 m1 c1 = refl
+
 -- from one row to the next
-pub kept-step : {r : Row} {ps vs xs : List ℕ} {s s′ : Sides} {a0 b0 d0 a1 b1 d1 a0′ b0′ d0′ a1′ b1′ d1′ : List ℕ}
-    → Stepped r ps vs xs s a0 b0 d0 a1 b1 d1 s′ a0′ b0′ d0′ a1′ b1′ d1′
-    → (points z : List ℕ) → ((l : ℕ) → l < r .rows → at xs l ≡ formOf (primeAt r) (at points l))
-    → Kept (primeAt r) points z (r .index) (r .rows) (pairOf a0 b0 (s .first .e)) d0
-    → Kept (primeAt r) points z (r .index) (r .rows) (pairOf a1 b1 (s .second .e)) d1
-    → Kept (primeAt r) points z (r .index + 1) (r .rows) (pairOf a0′ b0′ (s′ .first .e)) d0′
-    × Kept (primeAt r) points z (r .index + 1) (r .rows) (pairOf a1′ b1′ (s′ .second .e)) d1′
-kept-step h points z form first second = (
-  λ l i g. h .followed l _ _ (omega arith) g (form l g) (first l (omega arith) g) (second l (omega arith) g) .0,
-  λ l i g. h .followed l _ _ (omega arith) g (form l g) (first l (omega arith) g) (second l (omega arith) g) .1,
-)
+module _ {r : Row} {ps vs xs : List ℕ} {s s′ : Sides} {a0 b0 d0 a1 b1 d1 a0′ b0′ d0′ a1′ b1′ d1′ : List ℕ}
+    (h : Stepped r ps vs xs s a0 b0 d0 a1 b1 d1 s′ a0′ b0′ d0′ a1′ b1′ d1′) where
+  pub stepped-pairs : pairsOf (pairOf a0′ b0′ (s′ .first .e)) (pairOf a1′ b1′ (s′ .second .e))
+      ≡ stepBy (primeAt r) (r .point) (at d0 (r .index)) (at d1 (r .index)) (pairsOf (pairOf a0 b0 (s .first .e)) (pairOf a1 b1 (s .second .e)))
+  unfolding lineOf stepBy
+  stepped-pairs =
+      ap₂ pairsOf (h .first .pair) (h .second .pair)
+      ∙ lines-step (eqb (at d0 (r .index)) 0) (eqb (at d1 (r .index)) 0) (firstLeads s) _ _ _ _ _ _
+
+  pub kept-step : (points z : List ℕ) → ((l : ℕ) → l < r .rows → at xs l ≡ formOf (primeAt r) (at points l))
+      → Kept (primeAt r) points z (r .index) (r .rows) (pairOf a0 b0 (s .first .e)) d0
+      → Kept (primeAt r) points z (r .index) (r .rows) (pairOf a1 b1 (s .second .e)) d1
+      → Kept (primeAt r) points z (r .index + 1) (r .rows) (pairOf a0′ b0′ (s′ .first .e)) d0′
+      × Kept (primeAt r) points z (r .index + 1) (r .rows) (pairOf a1′ b1′ (s′ .second .e)) d1′
+  kept-step points z form first second = (
+    λ l i g. h .first .followed l _ _ (omega arith) g (form l g) (first l (omega arith) g) (second l (omega arith) g),
+    λ l i g. h .second .followed l _ _ (omega arith) g (form l g) (second l (omega arith) g) (first l (omega arith) g),
+  )
+
+  -- what the loop over the rows keeps
+  pub reached-more : {points z : List ℕ} {A B : ℕ}
+      → Reached (primeAt r) points z A B (r .index) (r .index + 1) (pairsOf (pairOf a0 b0 (s .first .e)) (pairOf a1 b1 (s .second .e)))
+      → r .point ≡ at points (r .index) → r .index < r .rows
+      → Kept (primeAt r) points z (r .index) (r .rows) (pairOf a0 b0 (s .first .e)) d0
+      → Kept (primeAt r) points z (r .index) (r .rows) (pairOf a1 b1 (s .second .e)) d1
+      → Reached (primeAt r) points z A B (r .index + 1) (r .index + 1 + 1) (pairsOf (pairOf a0′ b0′ (s′ .first .e)) (pairOf a1′ b1′ (s′ .second .e)))
+  reached-more reached point there first second =
+      reached-step reached _ _
+      (stepped-pairs ∙ rw (point, first (r .index) (omega arith) there, second (r .index) (omega arith) there))
+      (omega arith)
+      (record {
+        one = bounded-held _ (held-mono (h .first .held .pair) (h .first .low));
+        two = bounded-held _ (held-mono (h .second .held .pair) (h .second .low));
+      })

@@ -1,5 +1,3 @@
-pub mod PairLaws
-pub mod Discrepancies
 pub mod Arrays
 pub mod Following
 pub mod Lines

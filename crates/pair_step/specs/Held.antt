@@ -1,22 +1,24 @@
 -- The two pairs of polynomials as arrays hold them, with their discrepancies at all rows.
 use mathlib.Core.Path.{_≡_}
-use mathlib.Core.Bool.{Bool, cond}
+use mathlib.Core.Bool.{Bool, true, false, cond, not}
 use mathlib.Core.List.{List}
+use mathlib.Core.Logic.{_⊎_}
 use Prim.Native.Nat.{ℕ, _+_, _-_, _*_, _/_, _%_, _≤_, _<_}
 use lib.Dec.{eqb, leb, ltb}
 use lib.ListN.{length}
 use Rattle.field.specs.Primes.{modulusOf}
-use Rattle.montgomery.specs.Reduction.{formOf, factorOf}
+use Rattle.montgomery.specs.Factors.{formOf, factorOf}
 use Rattle.poly.specs.Coefficients.{at, Bounded}
 use Rattle.poly.specs.Operations.{timesLinearOf, combinationAt, combinationOf}
-use Rattle.lanes.specs.Lanes.{groupsOf, replaced, combinedLane}
-use Rattle.point_lanes.specs.Points.{differenceLane}
+use Rattle.lanes.specs.Lanes.{groupsOf, replaced, combinedLane, differenceLane}
 use Rattle.evaluation.specs.Values.{Narrow}
-use Rattle.pair_step.specs.declared.Pair.{Pair}
-use Rattle.pair_step.specs.Pairs.{Pairs, choose, discrepancyOf, stepBy}
+use Rattle.pairs.specs.declared.Pair.{Pair}
+use Rattle.pairs.specs.Pairs.{Pairs, choose, discrepancyOf, advancedOf, combinedOf}
 use Rattle.pair_step.specs.declared.Side.{Side}
 use Rattle.pair_step.specs.declared.Sides.{Sides}
 use Rattle.pair_step.specs.declared.Row.{Row}
+use Rattle.pair_step.specs.declared.Leader.{Leader}
+use Rattle.pair_step.specs.declared.Leader.the-variants.{Neither, First, Second}
 
 -- an array of 32 coefficients below p, zero from n on
 pub record Holds (p n : ℕ) (a : List ℕ) : Type 0 where
@@ -102,6 +104,24 @@ pub record Cleared (r : Row) (ps : List ℕ) (n : ℕ) (a b d : List ℕ) (u : S
   pub held : Held r (clearedSide r n u) s′ t′ e′
   pub each : (l : ℕ) → r .index ≤ l → l < r .rows → at e′ l ≡ combinationAt (primeAt r) (at d (r .index)) e (at e (r .index)) d l
 
+-- The pair (s, t) stays as it is.
+pub record Stays (u : Side) (s t e : List ℕ) (u′ : Side) (s′ t′ e′ : List ℕ) : Type 0 where
+  pub left : s′ ≡ s
+  pub right : t′ ≡ t
+  pub side : u′ ≡ keptSide u
+  pub exact : e′ ≡ e
+
+-- (s, t) has no discrepancy at the row, and stays, or it has one, and is freed of it
+abbrev pub Freed : (r : Row) (ps : List ℕ) (n : ℕ) (a b d : List ℕ) (u : Side) (s t e : List ℕ) (u′ : Side) (s′ t′ e′ : List ℕ) → Type 0
+Freed r ps n a b d u s t e u′ s′ t′ e′ = ((at e (r .index) ≡ 0) × Stays u s t e u′ s′ t′ e′) ⊎ ((at e (r .index) ≡ 0 → ⊥) × Cleared r ps n a b d u s t e u′ s′ t′ e′)
+
+-- The pair that leads, by the discrepancies m and c of the first and the second and by their numbers: of those that have a discrepancy the one
+-- with the smaller number, and the first of equal ones.
+abbrev pub Leads : (m c first second : ℕ) → Leader → Type 0
+Leads m c first second Neither = (m ≡ 0) × (c ≡ 0)
+Leads m c first second First = (m ≡ 0 → ⊥) × ((c ≡ 0 → ⊥) → leb first second ≡ true)
+Leads m c first second Second = (c ≡ 0 → ⊥) × ((m ≡ 0 → ⊥) → leb first second ≡ false)
+
 -- d holds the discrepancies of the pair s at rows `from` to rows - 1
 abbrev pub Kept : (p : ℕ) (points z : List ℕ) («from» rows : ℕ) (s : Pair) (d : List ℕ) → Type 0
 Kept p points z «from» rows s d = (l : ℕ) → «from» ≤ l → l < rows → at d l ≡ discrepancyOf p (at points l) (at z l) s
@@ -111,25 +131,26 @@ Kept p points z «from» rows s d = (l : ℕ) → «from» ≤ l → l < rows �
 unfoldable pub lineOf : {A : Type 0} → (m c : ℕ) (leads : Bool) (stays multiplied combined : A) → A
 lineOf m c leads stays multiplied combined = choose (eqb m 0) stays (choose (eqb c 0) multiplied (choose leads multiplied combined))
 
--- One row: the pairs are those of METHOD's table, by their discrepancies at the row; their numbers, lengths and entries written, and every
--- entry of the discrepancies, are fixed; and at the row and behind it the discrepancies are still those of the pairs.
-pub record Stepped (r : Row) (ps vs xs : List ℕ) (s : Sides) (a0 b0 d0 a1 b1 d1 : List ℕ) (s′ : Sides) (a0′ b0′ d0′ a1′ b1′ d1′ : List ℕ) : Type 0 where
-  pub pairs : pairsOf (pairOf a0′ b0′ (s′ .first .e)) (pairOf a1′ b1′ (s′ .second .e))
-      ≡ stepBy (primeAt r) (r .point) (at d0 (r .index)) (at d1 (r .index)) (pairsOf (pairOf a0 b0 (s .first .e)) (pairOf a1 b1 (s .second .e)))
-  pub side-first : s′ .first
-      ≡ lineOf (at d0 (r .index)) (at d1 (r .index)) (leb (s .first .e) (s .second .e))
-      (keptSide (s .first)) (advancedSide r (s .first)) (clearedSide r (longerOf (s .second .n) (s .first .n)) (s .first))
-  pub side-second : s′ .second
-      ≡ lineOf (at d1 (r .index)) (at d0 (r .index)) (ltb (s .second .e) (s .first .e))
-      (keptSide (s .second)) (advancedSide r (s .second)) (clearedSide r (longerOf (s .first .n) (s .second .n)) (s .second))
-  pub exact-first : d0′
-      ≡ lineOf (at d0 (r .index)) (at d1 (r .index)) (leb (s .first .e) (s .second .e)) d0 (multipliedBy r ps vs xs d0) (clearedBy r ps d1 d0)
-  pub exact-second : d1′
-      ≡ lineOf (at d1 (r .index)) (at d0 (r .index)) (ltb (s .second .e) (s .first .e)) d1 (multipliedBy r ps vs xs d1) (clearedBy r ps d0 d1)
-  pub first : Held r (s′ .first) a0′ b0′ d0′
-  pub second : Held r (s′ .second) a1′ b1′ d1′
-  pub first-low : s′ .first .n ≤ r .index + 1 + 1
-  pub second-low : s′ .second .n ≤ r .index + 1 + 1
+-- One of the pairs, (a, b) with its discrepancies d, beside the other, (s, t) with e, and by whether it leads where both have a discrepancy:
+-- METHOD's line for it; its number, its length and the entries written, and every entry of its discrepancies; and at the row and behind it
+-- the discrepancies are still those of the pair.
+pub record Lined (r : Row) (ps vs xs : List ℕ) (leads : Bool) (u : Side) (a b d : List ℕ) (w : Side) (s t e : List ℕ) (u′ : Side) (a′ b′ d′ : List ℕ) : Type 0 where
+  pub pair : pairOf a′ b′ (u′ .e)
+      ≡ lineOf (at d (r .index)) (at e (r .index)) leads (pairOf a b (u .e)) (advancedOf (primeAt r) (r .point) (pairOf a b (u .e)))
+      (combinedOf (primeAt r) (at e (r .index)) (pairOf a b (u .e)) (at d (r .index)) (pairOf s t (w .e)))
+  pub side : u′ ≡ lineOf (at d (r .index)) (at e (r .index)) leads (keptSide u) (advancedSide r u) (clearedSide r (longerOf (w .n) (u .n)) u)
+  pub exact : d′ ≡ lineOf (at d (r .index)) (at e (r .index)) leads d (multipliedBy r ps vs xs d) (clearedBy r ps e d)
+  pub held : Held r u′ a′ b′ d′
+  pub low : u′ .n ≤ r .index + 1 + 1
   pub followed : (l y z : ℕ) → r .index ≤ l → l < r .rows → at xs l ≡ formOf (primeAt r) y
-      → at d0 l ≡ discrepancyOf (primeAt r) y z (pairOf a0 b0 (s .first .e)) → at d1 l ≡ discrepancyOf (primeAt r) y z (pairOf a1 b1 (s .second .e))
-      → (at d0′ l ≡ discrepancyOf (primeAt r) y z (pairOf a0′ b0′ (s′ .first .e))) × (at d1′ l ≡ discrepancyOf (primeAt r) y z (pairOf a1′ b1′ (s′ .second .e)))
+      → at d l ≡ discrepancyOf (primeAt r) y z (pairOf a b (u .e)) → at e l ≡ discrepancyOf (primeAt r) y z (pairOf s t (w .e))
+      → at d′ l ≡ discrepancyOf (primeAt r) y z (pairOf a′ b′ (u′ .e))
+
+-- whether the first pair leads where both have a discrepancy
+abbrev pub firstLeads : Sides → Bool
+firstLeads s = leb (s .first .e) (s .second .e)
+
+-- one row
+pub record Stepped (r : Row) (ps vs xs : List ℕ) (s : Sides) (a0 b0 d0 a1 b1 d1 : List ℕ) (s′ : Sides) (a0′ b0′ d0′ a1′ b1′ d1′ : List ℕ) : Type 0 where
+  pub first : Lined r ps vs xs (firstLeads s) (s .first) a0 b0 d0 (s .second) a1 b1 d1 (s′ .first) a0′ b0′ d0′
+  pub second : Lined r ps vs xs (not (firstLeads s)) (s .second) a1 b1 d1 (s .first) a0 b0 d0 (s′ .second) a1′ b1′ d1′

@@ -4,17 +4,9 @@ ghost use mathlib.Core.Path.{_≡_};
 ghost use Rattle.field.specs.Primes.{modulusOf};
 ghost use Rattle.lanes.specs.Lanes.{Constants, Inverses};
 ghost use Rattle.evaluation.specs.Values.{Narrow};
-ghost use Rattle.pair_step.specs.Held.{PairHeld, Held, Beside, Fits, longerOf, keptSide, Advanced, Cleared, Stepped};
+ghost use Rattle.pair_step.specs.Held.{PairHeld, Held, Beside, Fits, longerOf, keptSide, Advanced, Freed, Leads, Stepped};
 use field::Prime;
 use montgomery::Factor;
-use poly::Poly;
-
-// A pair (a, b), and the number e by which the two pairs are compared.
-pub struct Pair {
-    pub a: Poly,
-    pub b: Poly,
-    pub e: usize,
-}
 
 // A pair whose polynomials stand in arrays: its number e, from where on both polynomials are zero, and how many entries the last row wrote
 // of each of them and of their discrepancies.
@@ -29,6 +21,13 @@ pub struct Side {
 pub struct Sides {
     pub first: Side,
     pub second: Side,
+}
+
+// The pair that is advanced at a row.
+pub enum Leader {
+    Neither,
+    First,
+    Second,
 }
 
 // A row: the prime, its index, how many rows there are, and its point, also as a factor.
@@ -79,9 +78,9 @@ fn advance(
     let x = r.x;
     let e = side.e + 1;
     let n = side.n + 1;
-    let coefficients = lanes::times_linear(ps, n, x, a);
-    lanes::times_linear(ps, n, x, b);
-    let discrepancies = point_lanes::times_differences(ps, vs, r.index, r.rows, xs, x.form, d);
+    let coefficients = lane_linear::times_linear(ps, n, x, a);
+    lane_linear::times_linear(ps, n, x, b);
+    let discrepancies = lane_differences::times_differences(ps, vs, r.index, r.rows, xs, x.form, d);
     Side {
         e: e,
         n: n,
@@ -91,7 +90,7 @@ fn advance(
 }
 
 // m (s, t) - c (a, b), in place of (s, t), where m and c are the discrepancies of (a, b) and (s, t) at the row: afterwards (s, t) has none
-// there. From n on all four polynomials are zero.
+// there. Where it had none before, it stays. From n on all four polynomials are zero.
 fn clear(
     ps: &[u16; 32],
     r: Row,
@@ -106,16 +105,19 @@ fn clear(
 ) -> Side
     requires { ⌜ Constants (r .prime) (now ps) × Fits r × (n ≤ 32) × PairHeld (modulusOf (r .prime)) n (now a) (now b)
         × Narrow (modulusOf (r .prime)) (now d) × PairHeld (modulusOf (r .prime)) n (now s) (now t) × Narrow (modulusOf (r .prime)) (now e) ⌝ }
-    ensures { λ next. ⌜ Cleared r (now (ps .entry)) n (now (a .entry)) (now (b .entry)) (now (d .entry))
+    ensures { λ next. ⌜ Freed r (now (ps .entry)) n (now (a .entry)) (now (b .entry)) (now (d .entry))
         side (now (s .entry)) (now (t .entry)) (now (e .entry)) next (now (s .exit)) (now (t .exit)) (now (e .exit)) ⌝ }
 {
     let q = r.prime;
     let k = r.index;
+    if e[k] == 0 {
+        return kept(side);
+    }
     let m = montgomery::as_factor(q, d[k] as u32);
     let c = montgomery::as_factor(q, e[k] as u32);
-    let coefficients = lanes::combine(ps, 0, n, m, s, c, a);
-    lanes::combine(ps, 0, n, m, t, c, b);
-    let discrepancies = lanes::combine(ps, k, r.rows, m, e, c, d);
+    let coefficients = lane_combination::combine(ps, 0, n, m, s, c, a);
+    lane_combination::combine(ps, 0, n, m, t, c, b);
+    let discrepancies = lane_combination::combine(ps, k, r.rows, m, e, c, d);
     let number = side.e;
     Side {
         e: number,
@@ -125,38 +127,39 @@ fn clear(
     }
 }
 
-// Both pairs have a discrepancy at the row, and (a, b) leads: (s, t) is freed of its own, and (a, b) advanced.
-fn exchange(
-    ps: &[u16; 32],
-    vs: &[u16; 32],
-    r: Row,
-    xs: &[u16; 32],
-    lead: Side,
-    a: &mut [u16; 32],
-    b: &mut [u16; 32],
-    d: &mut [u16; 32],
-    other: Side,
-    s: &mut [u16; 32],
-    t: &mut [u16; 32],
-    e: &mut [u16; 32],
-) -> Sides
-    requires { ⌜ Constants (r .prime) (now ps) × Inverses (r .prime) (now vs) × Fits r × Narrow (modulusOf (r .prime)) (now xs)
-        × (lead .e < 64) × (lead .n < 32) × (other .n < 32) × Held r lead (now a) (now b) (now d) × Held r other (now s) (now t) (now e) ⌝ }
-    ensures { λ next. ⌜ Advanced r (now (ps .entry)) (now (vs .entry)) (now (xs .entry))
-        lead (now (a .entry)) (now (b .entry)) (now (d .entry)) (next .first) (now (a .exit)) (now (b .exit)) (now (d .exit))
-        × Cleared r (now (ps .entry)) (longerOf (lead .n) (other .n)) (now (a .entry)) (now (b .entry)) (now (d .entry))
-        other (now (s .entry)) (now (t .entry)) (now (e .entry)) (next .second) (now (s .exit)) (now (t .exit)) (now (e .exit)) ⌝ }
+// Both pairs stay.
+fn both_kept(sides: Sides) -> Sides
+    ensures { λ r. ⌜ r ≡ record { first = keptSide (sides .first); second = keptSide (sides .second) } ⌝ }
 {
-    let n = longer(lead.n, other.n);
-    let second = clear(ps, r, n, a, b, d, other, s, t, e);
-    let first = advance(ps, vs, r, xs, lead, a, b, d);
+    let first = sides.first;
+    let second = sides.second;
     Sides {
-        first: first,
-        second: second,
+        first: kept(first),
+        second: kept(second),
     }
 }
 
-// One row: afterwards both pairs meet its condition.
+// Of the pairs that have a discrepancy, m and c, the one with the smaller number leads, and the first of equal ones.
+fn leading(m: u16, c: u16, first: usize, second: usize) -> Leader
+    ensures { λ r. ⌜ Leads m c first second r ⌝ }
+{
+    if m == 0 {
+        if c == 0 {
+            return Leader::Neither;
+        }
+        return Leader::Second;
+    }
+    if c == 0 {
+        return Leader::First;
+    }
+    if first <= second {
+        Leader::First
+    } else {
+        Leader::Second
+    }
+}
+
+// One row: afterwards both pairs meet its condition. The pair that leads is advanced, and the other freed of its discrepancy.
 pub fn step(
     ps: &[u16; 32],
     vs: &[u16; 32],
@@ -179,34 +182,25 @@ pub fn step(
     let k = r.index;
     let first = sides.first;
     let second = sides.second;
-    if d0[k] == 0 {
-        if d1[k] == 0 {
-            return Sides {
-                first: kept(first),
-                second: kept(second),
-            };
+    match leading(d0[k], d1[k], first.e, second.e) {
+        Leader::Neither => both_kept(sides),
+        Leader::First => {
+            let n = longer(first.n, second.n);
+            let other = clear(ps, r, n, a0, b0, d0, second, a1, b1, d1);
+            let lead = advance(ps, vs, r, xs, first, a0, b0, d0);
+            Sides {
+                first: lead,
+                second: other,
+            }
         }
-        let advanced = advance(ps, vs, r, xs, second, a1, b1, d1);
-        return Sides {
-            first: kept(first),
-            second: advanced,
-        };
-    }
-    if d1[k] == 0 {
-        let advanced = advance(ps, vs, r, xs, first, a0, b0, d0);
-        return Sides {
-            first: advanced,
-            second: kept(second),
-        };
-    }
-    if first.e <= second.e {
-        return exchange(ps, vs, r, xs, first, a0, b0, d0, second, a1, b1, d1);
-    }
-    let swapped = exchange(ps, vs, r, xs, second, a1, b1, d1, first, a0, b0, d0);
-    let lead = swapped.first;
-    let other = swapped.second;
-    Sides {
-        first: other,
-        second: lead,
+        Leader::Second => {
+            let n = longer(second.n, first.n);
+            let other = clear(ps, r, n, a1, b1, d1, first, a0, b0, d0);
+            let lead = advance(ps, vs, r, xs, second, a1, b1, d1);
+            Sides {
+                first: other,
+                second: lead,
+            }
+        }
     }
 }

@@ -1,10 +1,9 @@
-// Products of polynomials modulo one of the four primes, by a polynomial and by a number, coefficient by coefficient. The parameter n of
-// a function says from where on all coefficients are zero.
+// Products of polynomials modulo one of the four primes, coefficient by coefficient.
 ghost use Prim.Native.Nat.{_+_, _-_, _*_, _%_, _≤_, _<_, min};
 ghost use mathlib.Core.Path.{_≡_};
 ghost use Rattle.field.specs.Primes.{modulusOf};
 ghost use Rattle.poly.specs.Coefficients.{Bounded};
-ghost use Rattle.poly.specs.Operations.{productAt, productOf, scaledOf};
+ghost use Rattle.poly.specs.Operations.{productAt, productOf};
 use field::Prime;
 use poly::Poly;
 
@@ -54,18 +53,6 @@ pub fn product(q: Prime, a: Poly, la: usize, b: Poly, lb: usize) -> Poly
     while k + 1 < la + lb {
         r.c[k] = product_coefficient(q, a, la, b, lb, k);
         k += 1;
-    }
-    r
-}
-
-// c a
-pub fn scaled(q: Prime, n: usize, c: u32, a: Poly) -> Poly
-    requires { ⌜ (n ≤ 32) × Bounded (modulusOf q) n (a .c) ⌝ }
-    ensures { λ r. ⌜ (r .c ≡ scaledOf (modulusOf q) c (a .c)) × Bounded (modulusOf q) n (r .c) ⌝ }
-{
-    let mut r = poly::zero();
-    for k in 0..n {
-        r.c[k] = field::product(q, c, a.c[k]);
     }
     r
 }

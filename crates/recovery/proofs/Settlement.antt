@@ -17,7 +17,7 @@ use Rattle.rows.specs.Rows.{pointOf, pointsOf, valuesOf}
 use Rattle.rows.proofs.Entries.{points-at}
 use Rattle.job.proofs.Facts.{WellFormedFacts}
 use Rattle.column.specs.Sizes.{Sized}
-use Rattle.extension.specs.declared.Candidate.{Candidate}
+use Rattle.vector.specs.declared.Candidate.{Candidate}
 use Rattle.extension.specs.Extensions.{numeratorAt}
 use Rattle.candidate.specs.Candidates.{Table, candidateAfter}
 use Rattle.soundness.proofs.Candidates.{P, F, problem, Usable, Good, Verdict}

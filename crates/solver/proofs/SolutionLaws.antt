@@ -13,10 +13,10 @@ use Rattle.format.specs.declared.Reason.the-variants.{NoAnswer}
 use Rattle.format.specs.Bounds.{Storable, answerLengthOf}
 use Rattle.poly.specs.declared.Poly.{Poly}
 use Rattle.poly.specs.Vectors.{zeroPoly}
-use Rattle.pair_step.specs.Pairs.{choose}
+use Rattle.pairs.specs.Pairs.{choose}
 use Rattle.column.specs.Sizes.{Sized}
 use Rattle.column.proofs.Sizes.{numerator-low, denominator-low}
-use Rattle.extension.specs.declared.Candidate.{Candidate}
+use Rattle.vector.specs.declared.Candidate.{Candidate}
 use Rattle.extension.specs.Extensions.{Fitting}
 use Rattle.word.specs.Word.{wrongCountOf}
 use Rattle.judge.specs.Answers.{Within}

@@ -8,8 +8,8 @@ use Rattle.format.specs.declared.Outcome.the-variants.{Recovered, Refused}
 use Rattle.format.specs.declared.Reason.the-variants.{NoAnswer}
 use Rattle.format.specs.Bounds.{answerLengthOf}
 use Rattle.poly.specs.Vectors.{zeroPoly, coefficientsAt}
-use Rattle.pair_step.specs.Pairs.{choose}
-use Rattle.extension.specs.declared.Candidate.{Candidate}
+use Rattle.pairs.specs.Pairs.{choose}
+use Rattle.vector.specs.declared.Candidate.{Candidate}
 use Rattle.candidate.specs.Candidates.{candidateAfter}
 use Rattle.word.specs.Word.{wordOf, wrongCountOf}
 use Rattle.judge.specs.Rows.{wrongRowAt}

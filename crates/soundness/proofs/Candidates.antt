@@ -41,11 +41,12 @@ use Rattle.poly.proofs.Lengths.{bounded-length, length-at-most}
 use Rattle.poly_meaning.proofs.Series.{series, series-below, constant-means}
 use Rattle.poly_meaning.proofs.Products.{product-means}
 use Rattle.poly_meaning.proofs.Degrees.{length-means, degree-length, below-bounded}
-use Rattle.pair_step.specs.Pairs.{choose}
+use Rattle.pairs.specs.Pairs.{choose}
 use Rattle.column.specs.Sizes.{Sized, primeOf}
 use Rattle.column.proofs.Sizes.{numerator-low, denominator-low}
-use Rattle.extension.specs.declared.Candidate.{Candidate}
-use Rattle.extension.specs.Extensions.{Fitting, numeratorAt, unsolvableCandidate, raisedAt, raisedBelow, withOutput, extendedOf}
+use Rattle.vector.specs.declared.Candidate.{Candidate}
+use Rattle.extension.specs.Extensions.{Fitting, numeratorAt, raisedAt, raisedBelow, withOutput, extendedOf}
+use Rattle.vector.specs.Vector.{unsolvableCandidate}
 use Rattle.extension.proofs.Fittings.{bounded-raised, set-same, set-other, fitting-set}
 use Rattle.extension.proofs.ExtensionLaws.{raised-too-long, raised-fits}
 use Rattle.candidate.specs.Candidates.{Table, startCandidate, slackOf}

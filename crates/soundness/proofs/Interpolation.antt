@@ -47,8 +47,8 @@ use Rattle.poly_meaning.proofs.Series.{
   combination-means,
   value-means-bounded,
 }
-use Rattle.pair_step.specs.declared.Pair.{Pair}
-use Rattle.pair_step.specs.Pairs.{
+use Rattle.pairs.specs.declared.Pair.{Pair}
+use Rattle.pairs.specs.Pairs.{
   Pairs,
   PairBounded,
   PairsBounded,
@@ -61,7 +61,7 @@ use Rattle.pair_step.specs.Pairs.{
   smallerOf,
   solutionOf,
 }
-use Rattle.pair_step.proofs.PairLaws.{
+use Rattle.pairs.proofs.PairLaws.{
   pair-mono,
   step-both,
   step-second,
@@ -327,5 +327,5 @@ module _ (p : ℕ) (P : IsPrime p) where
         Good t = PairBounded p (k + 1) t × Solves R A B 32 conditionAt k (series p P (t .a .c)) (series p P (t .b .c))
 
         by : Dec (s .first .e ≤ s .second .e) → Good (smallerOf s)
-        by (yes le) = subst Good (smaller-first s le) (M .bounded .one, first-solves F A B 32 (M .invariant) e le)
-        by (no gt) = subst Good (smaller-second s (omega arith)) (M .bounded .two, second-solves F A B 32 (M .invariant) e (omega arith))
+        by (yes le) = subst Good (smaller-first {s = s} refl le) (M .bounded .one, first-solves F A B 32 (M .invariant) e le)
+        by (no gt) = subst Good (smaller-second {s = s} refl (omega arith)) (M .bounded .two, second-solves F A B 32 (M .invariant) e (omega arith))

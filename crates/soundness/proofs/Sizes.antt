@@ -7,8 +7,8 @@ use lib.Dec.{eqb, leb}
 use lib.ListN.{length, getD}
 use Rattle.poly.specs.Operations.{timesLinearOf, combinationOf}
 use Rattle.poly.proofs.Lists.{length-tabulate}
-use Rattle.pair_step.specs.declared.Pair.{Pair}
-use Rattle.pair_step.specs.Pairs.{Pairs, choose, advancedOf, combinedOf, stepBy, startOf, pairsAfter, smallerOf, solutionOf}
+use Rattle.pairs.specs.declared.Pair.{Pair}
+use Rattle.pairs.specs.Pairs.{Pairs, choose, advancedOf, combinedOf, stepBy, startOf, pairsAfter, smallerOf, solutionOf}
 
 pub record Whole (s : Pair) : Type 0 where
   pub left : length (s .a .c) ≡ 32

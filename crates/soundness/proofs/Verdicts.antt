@@ -18,14 +18,14 @@ use Rattle.poly.specs.Operations.{valueOf, lengthOf}
 use Rattle.poly.proofs.Lists.{at-tabulate}
 use Rattle.poly_meaning.proofs.Series.{residue-mod, value-means-bounded}
 use Rattle.poly_meaning.proofs.Degrees.{length-means-null}
-use Rattle.pair_step.specs.declared.Pair.{Pair}
-use Rattle.pair_step.specs.Pairs.{PairBounded, choose, solutionOf}
+use Rattle.pairs.specs.declared.Pair.{Pair}
+use Rattle.pairs.specs.Pairs.{PairBounded, choose, solutionOf}
 use Rattle.division.proofs.Leading.{Stored}
 use Rattle.column.specs.Sizes.{primeOf}
 use Rattle.column.specs.Columns.{columnOf}
 use Rattle.column.proofs.Sizes.{denominator-low}
 use Rattle.column.proofs.Columns.{column-is, bounded-column}
-use Rattle.extension.specs.declared.Candidate.{Candidate}
+use Rattle.vector.specs.declared.Candidate.{Candidate}
 use Rattle.candidate.specs.Candidates.{withFraction, slackOf, nextOf, candidateAfter}
 use Rattle.soundness.proofs.Interpolation.{solution-means}
 use Rattle.soundness.proofs.Sizes.{whole-solution}

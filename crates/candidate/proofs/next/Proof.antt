@@ -2,8 +2,8 @@ use mathlib.Core.Path.{_≡_, sym, ap, _∙_}
 use mathlib.Core.List.{List}
 use Prim.Native.Nat.{ℕ, _-_}
 use Rattle.field.specs.Primes.{modulusOf}
-use Rattle.pair_step.specs.declared.Pair.{Pair}
-use Rattle.pair_step.specs.Pairs.{solutionOf}
+use Rattle.pairs.specs.declared.Pair.{Pair}
+use Rattle.pairs.specs.Pairs.{solutionOf}
 use Rattle.column.proofs.Sizes.{slack-low}
 use Rattle.extension.proofs.Fittings.{fitting-unsolvable}
 use Rattle.candidate.specs.Candidates.{slackOf, withFraction, nextOf}

@@ -2,7 +2,7 @@ use mathlib.Core.Path.{refl, ap}
 use Prim.Native.Nat.{_-_, _≤_}
 use Rattle.field.specs.Primes.{modulusOf}
 use Rattle.montgomery.specs.declared.Factor.{Factor}
-use Rattle.montgomery.specs.Reduction.{formOf}
+use Rattle.montgomery.specs.Factors.{formOf}
 use Rattle.poly.specs.Coefficients.{at}
 use Rattle.poly.proofs.Lists.{Filled, filled-none, filled-more}
 use Rattle.evaluation.proofs.Steps.{is-each}

@@ -5,8 +5,7 @@ use Rattle.field.proofs.Moduli.{modulus-positive, modulus-small}
 use Rattle.poly.specs.Coefficients.{at}
 use Rattle.poly.proofs.Lists.{at-zeros}
 use Rattle.lanes.specs.Lanes.{modulusAt, Residues}
-use Rattle.lanes.proofs.Meaning.{constants-are, inverses-are, residues-replaced}
-use Rattle.point_lanes.proofs.Entries.{horner-below}
+use Rattle.lanes_meaning.proofs.Meaning.{constants-are, inverses-are, residues-replaced, horner-below}
 use Rattle.evaluation.specs.Values.{Evaluated}
 use Rattle.evaluation.proofs.Steps.{values-start, values-step, narrow-formed}
 use borrow.Author.Needs.{needs}
@@ -30,6 +29,9 @@ size-of S = search needs
 
 modulus-requires : tie.Need-modulus-requires Inv-loop μ-loop
 modulus-requires c κs = search needs
+
+cast-ps : tie.Need-cast-ps Inv-loop μ-loop
+cast-ps c = omega (arith, c .modulus .ensures, modulus-small (c .before .args .q))
 
 inverse-requires : tie.Need-inverse-requires Inv-loop μ-loop
 inverse-requires c κs = search needs
@@ -104,6 +106,7 @@ values-spec =
     Inv-loop
     μ-loop
     modulus-requires
+    cast-ps
     inverse-requires
     loop-holds
     sub-k

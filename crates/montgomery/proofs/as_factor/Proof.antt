@@ -1,5 +1,5 @@
 use borrow.Author.Needs.{needs}
-use Rattle.montgomery.proofs.Reduction.{factor-at}
+use Rattle.montgomery.proofs.Constants.{factor-at}
 use Rattle.montgomery.proofs.as_factor.Statement.{statement}
 use Rattle.montgomery.proofs.as_factor.Tie as tie
 

@@ -5,19 +5,15 @@ use borrow.Author.Needs.{needs}
 use Rattle.montgomery.proofs.form.Statement.{statement}
 use Rattle.montgomery.proofs.form.Tie as tie
 
--- src/lib.rt:43:22
 mul-reduce : tie.Need-mul-reduce
 mul-reduce c = search needs
 
--- src/lib.rt:43:5
 reduce-requires : tie.Need-reduce-requires
 reduce-requires c κs = search needs
 
--- src/lib.rt:43:5
 cast-result : tie.Need-cast-result
 cast-result c = omega (arith, modulus-small (c .before .args .q), residue-below (c .before .args .q) (c .before .args .e * 65536))
 
--- src/lib.rt:40:1
 returns : tie.Need-returns
 returns c = search needs
 

@@ -1,10 +1,23 @@
-use mathlib.Core.Path.{_∙_}
+use mathlib.Core.Path.{refl, _∙_}
+use mathlib.Core.Logic.{inl, inr}
 use Rattle.field.proofs.Moduli.{modulus-small}
 use Rattle.pair_step.proofs.Arrays.{side-is, residues-of, residues-held, form-below, combination-is, combination-held, combined-is, combined-narrow}
 use native.Mathlib.Omega.{arith}
 use borrow.Author.Needs.{needs}
 use Rattle.pair_step.proofs.clear.Statement.{statement}
 use Rattle.pair_step.proofs.clear.Tie as tie
+
+mul-if1 : tie.Need-mul-if1
+mul-if1 c = search needs
+
+element-copy-out-if1 : tie.Need-element-copy-out-if1
+element-copy-out-if1 c = search needs
+
+kept-requires : tie.Need-kept-requires
+kept-requires c κs = search needs
+
+returns : tie.Need-returns
+returns c = inl (c .before .if1 .taken, record { left = refl; right = refl; side = c .kept .ensures; exact = refl })
 
 mul-as-factor : tie.Need-mul-as-factor
 mul-as-factor c = search needs
@@ -14,7 +27,7 @@ element-copy-out-as-factor c = search needs
 
 cast-as-factor : tie.Need-cast-as-factor
 cast-as-factor c =
-    let S = c .before in
+    let S = c .before .before .before in
     omega (arith, S .pre .4 .below (S .args .r .index), modulus-small (S .args .r .prime))
 
 as-factor-requires : tie.Need-as-factor-requires
@@ -28,7 +41,7 @@ element-copy-out-as-factor-2 c = search needs
 
 cast-as-factor-2 : tie.Need-cast-as-factor-2
 cast-as-factor-2 c =
-    let S = c .before .before .before in
+    let S = c .before .before .before .before .before in
     omega (arith, S .pre .6 .below (S .args .r .index), modulus-small (S .args .r .prime))
 
 as-factor-requires-2 : tie.Need-as-factor-requires-2
@@ -37,7 +50,7 @@ as-factor-requires-2 c κs = search needs
 combine-requires : tie.Need-combine-requires
 combine-requires c κs =
     let F = c .before in
-    let S = F .before .before .before .before in
+    let S = F .before .before .before .before .before .before in
     let cs = S .pre .0 in (
       omega arith,
       S .pre .2,
@@ -51,7 +64,7 @@ combine-requires c κs =
 combine-requires-2 : tie.Need-combine-requires-2
 combine-requires-2 c κs =
     let F = c .before .before .before in
-    let S = F .before .before .before .before in
+    let S = F .before .before .before .before .before .before in
     let cs = S .pre .0 in (
       omega arith,
       S .pre .2,
@@ -65,7 +78,7 @@ combine-requires-2 c κs =
 combine-requires-3 : tie.Need-combine-requires-3
 combine-requires-3 c κs =
     let F = c .before .before .before .before .before in
-    let S = F .before .before .before .before in
+    let S = F .before .before .before .before .before .before in
     let cs = S .pre .0 in
     let fits = S .pre .1 in (
       omega (arith, fits .there),
@@ -77,11 +90,11 @@ combine-requires-3 c κs =
       form-below cs _ (F .as-factor2 .ensures),
     )
 
-returns : tie.Need-returns
-returns c =
+returns-2 : tie.Need-returns-2
+returns-2 c =
     let C = c .before .before in
     let F = C .before .before .before .before in
-    let S = F .before .before .before .before in
+    let S = F .before .before .before .before .before .before in
     let cs = S .pre .0 in
     let m = F .before .before .as-factor .ensures in
     let f = F .as-factor2 .ensures in
@@ -92,22 +105,29 @@ returns c =
     let third = c .combine3 .ensures in
     let a = combination-is cs (held .left) (other .left) _ _ low m f (first .1) in
     let b = combination-is cs (held .right) (other .right) _ _ low m f (C .combine2 .ensures .1) in
-    record {
-      left = a;
-      right = b;
-      side = side-is (S .args .side .e) (S .args .n) (first .0 ∙ omega arith) (third .0);
-      exact = third .1 ∙ rw (m, f);
-      held = record {
-        pair = record { left = combination-held cs (held .left) (other .left) _ _ low a; right = combination-held cs (held .right) (other .right) _ _ low b };
-        discrepancies = combined-narrow cs _ _ (S .pre .1 .few) (S .pre .6) _ _ _ (third .1);
-      };
-      each = combined-is cs _ _ (S .pre .1 .few) (S .pre .6) _ _ _ low m f (third .1);
-    }
+    inr (
+      F .before .before .before .before .if1 .left,
+      record {
+        left = a;
+        right = b;
+        side = side-is (S .args .side .e) (S .args .n) (first .0 ∙ omega arith) (third .0);
+        exact = rw (m, f) at (third .1);
+        held = record {
+          pair = record { left = combination-held cs (held .left) (other .left) _ _ low a; right = combination-held cs (held .right) (other .right) _ _ low b };
+          discrepancies = combined-narrow cs _ _ (S .pre .1 .few) (S .pre .6) _ _ _ (third .1);
+        };
+        each = combined-is cs _ _ (S .pre .1 .few) (S .pre .6) _ _ _ low m f (third .1);
+      },
+    )
 
 pub clear-spec : {M : Type 1} → statement M
 clear-spec =
     tie.close
     (tie.spec
+    mul-if1
+    element-copy-out-if1
+    kept-requires
+    returns
     mul-as-factor
     element-copy-out-as-factor
     cast-as-factor
@@ -119,4 +139,4 @@ clear-spec =
     combine-requires
     combine-requires-2
     combine-requires-3
-    returns)
+    returns-2)

@@ -1,116 +1,152 @@
-use Rattle.pair_step.proofs.Lines.{stays, second-advances, first-advances, first-leads, second-leads}
-use native.Mathlib.Omega.{arith}
+use mathlib.Core.Path.{refl, ap}
+use mathlib.Core.Bool.{not}
+use Rattle.pair_step.specs.declared.Sides.{Sides}
+use Rattle.pair_step.specs.Held.{firstLeads}
+use Rattle.pair_step.proofs.Arrays.{held-mono}
+use Rattle.pair_step.proofs.Lines.{longer-short, longer-left, longer-right, freed-longer, stays, exchanged}
 use borrow.Author.Needs.{needs}
+use native.Mathlib.Omega.{arith}
 use Rattle.pair_step.proofs.step.Statement.{statement}
 use Rattle.pair_step.proofs.step.Tie as tie
 
-mul-if1 : tie.Need-mul-if1
-mul-if1 c = search needs
+mul-leading : tie.Need-mul-leading
+mul-leading c = search needs
 
-element-copy-out-if1 : tie.Need-element-copy-out-if1
-element-copy-out-if1 c = search needs
+element-copy-out-leading : tie.Need-element-copy-out-leading
+element-copy-out-leading c = search needs
 
-mul-if2 : tie.Need-mul-if2
-mul-if2 c = search needs
+mul-leading-2 : tie.Need-mul-leading-2
+mul-leading-2 c = search needs
 
-element-copy-out-if2 : tie.Need-element-copy-out-if2
-element-copy-out-if2 c = search needs
+element-copy-out-leading-2 : tie.Need-element-copy-out-leading-2
+element-copy-out-leading-2 c = search needs
 
-kept-requires : tie.Need-kept-requires
-kept-requires c κs = search needs
+leading-requires : tie.Need-leading-requires
+leading-requires c κs = search needs
 
-kept-requires-2 : tie.Need-kept-requires-2
-kept-requires-2 c κs = search needs
+enum-told : tie.Need-enum-told
+enum-told c = search needs
 
-returns : tie.Need-returns
-returns c =
-    let T = c .before .before in
-    let S = T .before .before .before .before .before .before in
-    stays (S .pre .2) _ _ _ _ (S .pre .4) (S .pre .5) (S .pre .6) (T .before .before .if1 .taken) (T .if2 .taken) (c .before .kept .ensures) (c .kept2 .ensures)
+both-kept-requires : tie.Need-both-kept-requires
+both-kept-requires c κs = search needs
+
+enum-told-2 : tie.Need-enum-told-2
+enum-told-2 c = search needs
+
+longer-requires : tie.Need-longer-requires
+longer-requires c κs = search needs
+
+clear-requires : tie.Need-clear-requires
+clear-requires c κs =
+    let N = c .before .before .before .before .before .before in
+    let S = N .before .before .before .before .before .before .before .before in
+    let low = S .pre .4 in
+    let n = N .longer .ensures in (
+      S .pre .0,
+      S .pre .2,
+      omega (arith, longer-short (S .pre .2) n (low .first-low) (low .second-low)),
+      held-mono (S .pre .5 .pair) (omega (arith, n, longer-left (S .args .sides .first .n) (S .args .sides .second .n))),
+      S .pre .5 .discrepancies,
+      held-mono (S .pre .6 .pair) (omega (arith, n, longer-right (S .args .sides .first .n) (S .args .sides .second .n))),
+      S .pre .6 .discrepancies,
+    )
 
 advance-requires : tie.Need-advance-requires
 advance-requires c κs =
-    let S = c .before .before .before .before .before .before .before .before .before in
+    let S = c .before .before .before .before .before .before .before .before .before .before .before .before .before .before .before .before .before .before in
+    let fits = S .pre .2 in
     let low = S .pre .4 in
-    (S .pre .0, S .pre .1, S .pre .2, S .pre .3, low .second-small, omega (arith, low .second-low, S .pre .2 .there, S .pre .2 .few), S .pre .6)
+    (S .pre .0, S .pre .1, fits, S .pre .3, low .first-small, omega (arith, low .first-low, fits .there, fits .few), S .pre .5)
 
-kept-requires-3 : tie.Need-kept-requires-3
-kept-requires-3 c κs = search needs
+enum-told-3 : tie.Need-enum-told-3
+enum-told-3 c = search needs
 
-returns-2 : tie.Need-returns-2
-returns-2 c =
-    let E = c .before .before .before .before .before in
-    let S = E .before .before .before .before .before .before in
-    second-advances (S .pre .2) _ _ _ _ (S .pre .4) (S .pre .5) (S .pre .6) (E .before .before .if1 .taken) (E .if2 .left) (c .kept3 .ensures) (c .before .advance .ensures)
+longer-requires-2 : tie.Need-longer-requires-2
+longer-requires-2 c κs = search needs
 
-mul-if3 : tie.Need-mul-if3
-mul-if3 c = search needs
-
-element-copy-out-if3 : tie.Need-element-copy-out-if3
-element-copy-out-if3 c = search needs
+clear-requires-2 : tie.Need-clear-requires-2
+clear-requires-2 c κs =
+    let N = c .before .before .before .before .before .before in
+    let S = N .before .before .before .before .before .before .before .before in
+    let low = S .pre .4 in
+    let n = N .longer2 .ensures in (
+      S .pre .0,
+      S .pre .2,
+      omega (arith, longer-short (S .pre .2) n (low .second-low) (low .first-low)),
+      held-mono (S .pre .6 .pair) (omega (arith, n, longer-left (S .args .sides .second .n) (S .args .sides .first .n))),
+      S .pre .6 .discrepancies,
+      held-mono (S .pre .5 .pair) (omega (arith, n, longer-right (S .args .sides .second .n) (S .args .sides .first .n))),
+      S .pre .5 .discrepancies,
+    )
 
 advance-requires-2 : tie.Need-advance-requires-2
 advance-requires-2 c κs =
-    let S = c .before .before .before .before .before .before .before .before .before in
+    let S = c .before .before .before .before .before .before .before .before .before .before .before .before .before .before .before .before .before .before in
+    let fits = S .pre .2 in
     let low = S .pre .4 in
-    (S .pre .0, S .pre .1, S .pre .2, S .pre .3, low .first-small, omega (arith, low .first-low, S .pre .2 .there, S .pre .2 .few), S .pre .5)
+    (S .pre .0, S .pre .1, fits, S .pre .3, low .second-small, omega (arith, low .second-low, fits .there, fits .few), S .pre .6)
 
-kept-requires-4 : tie.Need-kept-requires-4
-kept-requires-4 c κs = search needs
+returns : tie.Need-returns
+returns c =
+    let L = c .before .before .before in
+    let S = L .before .before .before .before .before in
+    let low = S .pre .4 in
+    let none = rw (c .before .enum-told .given .1) at (L .leading .ensures) in
+    let kept = c .both-kept .ensures in
+    record {
+      first = stays (S .pre .2) (S .pre .5) (S .pre .6) (low .first-low) (low .second-low) _ (none .0)
+          (record { left = refl; right = refl; side = ap (λ (s : Sides). s .first) kept; exact = refl });
+      second = stays (S .pre .2) (S .pre .6) (S .pre .5) (low .second-low) (low .first-low) _ (none .1)
+          (record { left = refl; right = refl; side = ap (λ (s : Sides). s .second) kept; exact = refl });
+    }
+
+returns-2 : tie.Need-returns-2
+returns-2 c =
+    let C = c .before .before .before .before in
+    let N = C .before .before .before .before .before .before .before in
+    let E = N .before in
+    let L = E .before .before in
+    let S = L .before .before .before .before .before in
+    let low = S .pre .4 in
+    let lead = rw (E .enum-told2 .given .1) at (L .leading .ensures) in
+    let leads = firstLeads (S .args .sides) in
+    let both = exchanged (S .pre .2) (S .pre .5) (S .pre .6) (low .first-low) (low .second-low) leads (not leads) (lead .0)
+    (λ k. (lead .1 k, ap not (lead .1 k))) (c .advance .ensures) (freed-longer (N .longer .ensures) (C .clear .ensures)) in
+    record { first = both .0; second = both .1 }
 
 returns-3 : tie.Need-returns-3
 returns-3 c =
-    let E = c .before .before .before .before .before in
-    let S = E .before .before .before .before .before .before in
-    first-advances (S .pre .2) _ _ _ _ (S .pre .4) (S .pre .5) (S .pre .6) (E .before .before .if1 .left) (E .if3 .taken) (c .kept4 .ensures) (c .before .advance2 .ensures)
-
-exchange-requires : tie.Need-exchange-requires
-exchange-requires c κs =
-    let S = c .before .before .before .before .before .before .before .before .before .before .before .before .before .before .before in
+    let C = c .before .before .before .before in
+    let N = C .before .before .before .before .before .before .before in
+    let E = N .before in
+    let L = E .before .before in
+    let S = L .before .before .before .before .before in
     let low = S .pre .4 in
-    let fits = S .pre .2 in
-    (S .pre .0, S .pre .1, fits, S .pre .3, low .first-small, omega (arith, low .first-low, fits .there, fits .few), omega (arith, low .second-low, fits .there, fits .few), S .pre .5, S .pre .6)
-
-returns-4 : tie.Need-returns-4
-returns-4 c =
-    let T = c .before .before .before .before .before .before .before in
-    let S = T .before .before .before .before .before .before .before .before .before in
-    first-leads (S .pre .2) _ _ _ _ (S .pre .4) (S .pre .5) (S .pre .6) (T .before .before .before .before .before .if1 .left) (T .before .before .before .if3 .left) (T .if4 .taken) (c .exchange .ensures .0) (c .exchange .ensures .1)
-
-exchange-requires-2 : tie.Need-exchange-requires-2
-exchange-requires-2 c κs =
-    let S = c .before .before .before .before .before .before .before .before .before .before .before .before .before .before .before in
-    let low = S .pre .4 in
-    let fits = S .pre .2 in
-    (S .pre .0, S .pre .1, fits, S .pre .3, low .second-small, omega (arith, low .second-low, fits .there, fits .few), omega (arith, low .first-low, fits .there, fits .few), S .pre .6, S .pre .5)
-
-returns-5 : tie.Need-returns-5
-returns-5 c =
-    let X = c .before .before in
-    let T = X .before .before .before .before .before .before .before in
-    let S = T .before .before .before .before .before .before .before .before .before in
-    second-leads (S .pre .2) _ _ _ _ (S .pre .4) (S .pre .5) (S .pre .6) (T .before .before .before .before .before .if1 .left) (T .before .before .before .if3 .left) (T .if4 .left) (X .exchange2 .ensures .0) (X .exchange2 .ensures .1)
+    let lead = rw (E .enum-told3 .given .1) at (L .leading .ensures) in
+    let leads = firstLeads (S .args .sides) in
+    let both = exchanged (S .pre .2) (S .pre .6) (S .pre .5) (low .second-low) (low .first-low) (not leads) leads (lead .0)
+    (λ k. (ap not (lead .1 k), lead .1 k)) (c .advance2 .ensures) (freed-longer (N .longer2 .ensures) (C .clear2 .ensures)) in
+    record { first = both .1; second = both .0 }
 
 pub step-spec : {M : Type 1} → statement M
 step-spec =
     tie.close
     (tie.spec
-    mul-if1
-    element-copy-out-if1
-    mul-if2
-    element-copy-out-if2
-    kept-requires
-    kept-requires-2
-    returns
+    mul-leading
+    element-copy-out-leading
+    mul-leading-2
+    element-copy-out-leading-2
+    leading-requires
+    enum-told
+    both-kept-requires
+    enum-told-2
+    longer-requires
+    clear-requires
     advance-requires
-    kept-requires-3
-    returns-2
-    mul-if3
-    element-copy-out-if3
+    enum-told-3
+    longer-requires-2
+    clear-requires-2
     advance-requires-2
-    kept-requires-4
-    returns-3
-    exchange-requires
-    returns-4
-    exchange-requires-2
-    returns-5)
+    returns
+    returns-2
+    returns-3)

@@ -1,0 +1,123 @@
+use mathlib.Core.Path.{_≡_, refl}
+use mathlib.Core.List.{_∷_}
+use Prim.Native.Nat.{_-_, _≤_, _<_}
+use native.Mathlib.Numerals.{add-one}
+use Rattle.poly.specs.Coefficients.{at}
+use Rattle.lanes.specs.Lanes.{modulusAt, linearLane}
+use Rattle.lanes.proofs.Changes.{Changed, changed-none, changed-more, changed-all, splat, below-lane, splat-below, reduced-below, linear-is}
+use borrow.Author.Needs.{needs}
+use native.Mathlib.Omega.{arith}
+use Rattle.lane_linear.proofs.times_linear.Statement.{statement}
+use Rattle.lane_linear.proofs.times_linear.Tie as tie
+
+abbrev Inv-loop : tie.InvT-loop
+Inv-loop ps n a₀ xs xl end lower₀ k₀ a lower k =
+    (k ≤ end) × Changed (linearLane ps (record { form = at xs 0; low = at xl 0 }) a₀) 0 k a₀ a × (lower ≡ at (0 ∷ a₀) k) × (lower < modulusAt ps)
+
+abbrev μ-loop : tie.MeasureT-loop
+μ-loop ps n a₀ xs xl end lower₀ k₀ a lower k = end - k
+
+add-end : tie.Need-add-end Inv-loop μ-loop
+add-end c = omega arith
+
+mul-end : tie.Need-mul-end Inv-loop μ-loop
+mul-end c = omega arith
+
+loop-holds : tie.Need-loop-holds Inv-loop μ-loop
+loop-holds c =
+    (omega arith, changed-none _ _ _ (c .pre .2 .size), refl, omega (arith, c .pre .2 .below 0))
+
+mul-p : tie.Need-mul-p Inv-loop μ-loop
+mul-p c = omega arith
+
+element-copy-out-p : tie.Need-element-copy-out-p Inv-loop μ-loop
+element-copy-out-p c = omega arith
+
+mul-here : tie.Need-mul-here Inv-loop μ-loop
+mul-here c = omega arith
+
+element-copy-out-here : tie.Need-element-copy-out-here Inv-loop μ-loop
+element-copy-out-here c = omega arith
+
+mul-product : tie.Need-mul-product Inv-loop μ-loop
+mul-product c = omega arith
+
+array-read-product : tie.Need-array-read-product Inv-loop μ-loop
+array-read-product c = omega arith
+
+mul-product-2 : tie.Need-mul-product-2 Inv-loop μ-loop
+mul-product-2 c = omega arith
+
+array-read-product-2 : tie.Need-array-read-product-2 Inv-loop μ-loop
+array-read-product-2 c = omega arith
+
+product-requires : tie.Need-product-requires Inv-loop μ-loop
+product-requires c κs =
+    let L = c .before .before .before in
+    let S = L .before in
+    let k = L .loop .k in
+    let l : k < 32 = omega arith in
+    let m = S .pre .1 in
+    (splat-below m k l (S .pre .3), rw (L .loop .inv .1 .rest k (omega arith)) (below-lane m k l (S .pre .2 .below k)))
+
+difference-requires : tie.Need-difference-requires Inv-loop μ-loop
+difference-requires c κs =
+    let L = c .before .before .before .before in
+    let S = L .before in
+    let k = L .loop .k in
+    let l : k < 32 = omega arith in
+    let lower = below-lane (S .pre .1) k l (L .loop .inv .3) in
+    let taken = reduced-below _ _ _ _ (omega arith) (c .product .ensures) in
+    (lower, omega arith)
+
+mul-a : tie.Need-mul-a Inv-loop μ-loop
+mul-a c = omega arith
+
+element-write-a : tie.Need-element-write-a Inv-loop μ-loop
+element-write-a c = search needs
+
+add-k : tie.Need-add-k Inv-loop μ-loop
+add-k c = omega arith
+
+loop-less : tie.Need-loop-less Inv-loop μ-loop
+loop-less c = omega arith
+
+loop-again : tie.Need-loop-again Inv-loop μ-loop
+loop-again c =
+    let L = c .before .before .before .before .before in
+    let S = L .before in
+    let k = L .loop .k in
+    let l : k < 32 = omega arith in
+    let inv = L .loop .inv in
+    let same = inv .1 .rest k (omega arith) in
+    let value = linear-is (S .args .ps .now) (S .args .a .now) k _ (splat _ k l) (splat _ k l) (inv .2) same (c .before .product .ensures) (c .difference .ensures) in
+    (omega arith, changed-more (inv .1) (c .difference .result) (omega arith) l value, rw add-one same, rw same (S .pre .2 .below k))
+
+returns : tie.Need-returns Inv-loop μ-loop
+returns c = (omega arith, changed-all (c .before .loop .inv .1) (omega arith))
+
+pub times-linear-spec : {M : Type 1} → statement M
+times-linear-spec =
+    tie.close
+    (tie.spec
+    Inv-loop
+    μ-loop
+    add-end
+    mul-end
+    loop-holds
+    mul-p
+    element-copy-out-p
+    mul-here
+    element-copy-out-here
+    mul-product
+    array-read-product
+    mul-product-2
+    array-read-product-2
+    product-requires
+    difference-requires
+    mul-a
+    element-write-a
+    add-k
+    loop-less
+    loop-again
+    returns)

@@ -1,0 +1,43 @@
+-- All products fit 32 bits, and the high halves 16.
+use Prim.Native.Nat.{_*_, _%_}
+use native.Mathlib.Omega.{arith}
+use borrow.Author.Needs.{needs}
+use Rattle.reduction.specs.Reduction.{reducedOf}
+use Rattle.field.proofs.Remainders.{product-of-halves}
+use Rattle.reduction.proofs.Halves.{high-below, high-of-residues}
+use Rattle.reduction.proofs.product.Statement.{statement}
+use Rattle.reduction.proofs.product.Tie as tie
+
+mul-high : tie.Need-mul-high
+mul-high c = omega (arith, product-of-halves {x = c .args .form} {y = c .args .a} (omega arith) (omega arith))
+
+mul-m : tie.Need-mul-m
+mul-m c = omega (arith, product-of-halves {x = c .args .low} {y = c .args .a} (omega arith) (omega arith))
+
+mul-taken : tie.Need-mul-taken
+mul-taken c = omega (arith, product-of-halves {x = c .args .low * c .args .a % 65536} {y = c .args .p} (omega arith) (omega arith))
+
+cast-difference : tie.Need-cast-difference
+cast-difference c = omega (arith, high-of-residues (c .pre .0) (c .pre .1) (omega arith))
+
+cast-difference-2 : tie.Need-cast-difference-2
+cast-difference-2 c = omega (arith, high-below (c .args .low * c .args .a) (c .args .p) (omega arith))
+
+difference-requires : tie.Need-difference-requires
+difference-requires c κs = (high-of-residues (c .pre .0) (c .pre .1) (omega arith), omega (arith, high-below (c .args .low * c .args .a) (c .args .p) (omega arith)))
+
+returns : tie.Need-returns
+unfolding reducedOf
+returns c = search needs
+
+pub product-spec : {M : Type 1} → statement M
+product-spec =
+    tie.close
+    (tie.spec
+    mul-high
+    mul-m
+    mul-taken
+    cast-difference
+    cast-difference-2
+    difference-requires
+    returns)
