@@ -1,8 +1,7 @@
 // The numbers modulo one of the four primes: any operands, reduced results.
-ghost use Prim.Native.Nat.{_+_, _*_, _%_};
+ghost use Prim.Native.Nat.{_*_, _%_};
 ghost use mathlib.Core.Path.{_≡_};
 ghost use Rattle.field.specs.Primes.{modulusOf, primeOfCode};
-ghost use Rattle.field.specs.Residues.{differenceOf, negationOf};
 
 // Paper 01, "Primes by code".
 pub enum Prime {
@@ -44,24 +43,6 @@ pub fn reduce(q: Prime, x: u64) -> u32
         Prime::P257 => (x % 257) as u32,
         Prime::P65521 => (x % 65521) as u32,
     }
-}
-
-pub fn sum(q: Prime, a: u32, b: u32) -> u32
-    ensures { λ r. ⌜ r ≡ (a + b) % modulusOf q ⌝ }
-{
-    reduce(q, a as u64 + b as u64)
-}
-
-pub fn negation(q: Prime, a: u32) -> u32
-    ensures { λ r. ⌜ r ≡ negationOf (modulusOf q) a ⌝ }
-{
-    reduce(q, (modulus(q) - reduce(q, a as u64)) as u64)
-}
-
-pub fn difference(q: Prime, a: u32, b: u32) -> u32
-    ensures { λ r. ⌜ r ≡ differenceOf (modulusOf q) a b ⌝ }
-{
-    sum(q, a, negation(q, b))
 }
 
 pub fn product(q: Prime, a: u32, b: u32) -> u32
