@@ -12,8 +12,9 @@ use vector::Candidate;
 fn start() -> Candidate
     ensures { λ r. ⌜ r ≡ startCandidate ⌝ }
 {
-    let one = poly::constant(1);
     let none = poly::zero();
+    let mut one = none;
+    one.c[0] = 1;
     Candidate {
         solvable: true,
         g: one,

@@ -2,7 +2,6 @@
 // all coefficients are zero: the loops go no further.
 ghost use Prim.Native.Nat.{ℕ, _≤_};
 ghost use mathlib.Core.Path.{_≡_};
-ghost use mathlib.Core.List.{_∷_};
 ghost use lib.ListN.{replicate};
 ghost use Rattle.poly.specs.Coefficients.{at};
 ghost use Rattle.poly.specs.Operations.{lengthOf};
@@ -16,14 +15,6 @@ pub fn zero() -> Poly
     ensures { λ r. ⌜ r .c ≡ replicate 32 0 ⌝ }
 {
     Poly { c: [0u32; 32] }
-}
-
-pub fn constant(c: u32) -> Poly
-    ensures { λ r. ⌜ r .c ≡ c ∷ replicate 31 0 ⌝ }
-{
-    let mut r = zero();
-    r.c[0] = c;
-    r
 }
 
 // The degree plus 1; 0 for the zero polynomial.
