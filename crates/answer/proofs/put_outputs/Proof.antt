@@ -24,15 +24,6 @@ loop-holds : tie.Need-loop-holds Inv-loop μ-loop
 unfolding outputBytes
 loop-holds c = let g = c .before .args in (search needs, refl, omega arith, sym (splice-none (g .at) (g .area .now)))
 
-mul-fi : tie.Need-mul-fi Inv-loop μ-loop
-mul-fi c = omega arith
-
-array-copy-out-fi : tie.Need-array-copy-out-fi Inv-loop μ-loop
-array-copy-out-fi c = omega arith
-
-numerator-bound-requires : tie.Need-numerator-bound-requires Inv-loop μ-loop
-numerator-bound-requires c κs = search needs
-
 add-put-coefficients : tie.Need-add-put-coefficients Inv-loop μ-loop
 add-put-coefficients c =
     let s = c .before .before .before .before in
@@ -46,12 +37,6 @@ put-coefficients-requires c κs =
     let low = g .pre .0 .numerators-low (s .loop .i) in
     let within = output-within (g .args .b) (coefficientsAt (g .args .t4)) (s .loop .i) (g .args .b .outputs) (omega arith) in
     (omega arith, omega arith)
-
-add-i : tie.Need-add-i Inv-loop μ-loop
-add-i c = omega arith
-
-loop-less : tie.Need-loop-less Inv-loop μ-loop
-loop-less c = omega arith
 
 loop-again : tie.Need-loop-again Inv-loop μ-loop
 loop-again c =
@@ -91,13 +76,13 @@ put-outputs-spec =
     Inv-loop
     μ-loop
     loop-holds
-    mul-fi
-    array-copy-out-fi
-    numerator-bound-requires
+    (λ c. omega arith)
+    (λ c. omega arith)
+    (λ c κs. search needs)
     add-put-coefficients
     put-coefficients-requires
-    add-i
-    loop-less
+    (λ c. omega arith)
+    (λ c. omega arith)
     loop-again
     same-length
     returns)

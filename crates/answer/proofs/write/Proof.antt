@@ -10,23 +10,11 @@ use Rattle.answer.proofs.Runs.{whole-answer}
 use Rattle.answer.proofs.write.Statement.{statement}
 use Rattle.answer.proofs.write.Tie as tie
 
-put-word-requires : tie.Need-put-word-requires
-put-word-requires c κs = search needs
-
-add-put-coefficients : tie.Need-add-put-coefficients
-add-put-coefficients c = search needs
-
-put-coefficients-requires : tie.Need-put-coefficients-requires
-put-coefficients-requires c κs = search needs
-
 put-outputs-requires : tie.Need-put-outputs-requires
 put-outputs-requires c κs =
     let run = c .before .before .before in
     let start = run .before .before .before .before .before .before .before in
     (start .pre .0, omega (arith, answer-end (start .args .b) (coefficientsAt (start .args .f))))
-
-same-length : tie.Need-same-length
-same-length c = search needs
 
 returns : tie.Need-returns
 returns c =
@@ -46,9 +34,9 @@ pub write-spec : {M : Type 1} → statement M
 write-spec =
     tie.close
     (tie.spec
-    put-word-requires
-    add-put-coefficients
-    put-coefficients-requires
+    (λ c κs. search needs)
+    (λ c. search needs)
+    (λ c κs. search needs)
     put-outputs-requires
-    same-length
+    (λ c. search needs)
     returns)

@@ -15,12 +15,6 @@ Inv-loop b points values n xs c₀ i₀ c i = (i ≤ n) × (c ≡ candidateAfter
 abbrev μ-loop : tie.MeasureT-loop
 μ-loop b points values n xs c₀ i₀ c i = n - i
 
-forms-requires : tie.Need-forms-requires Inv-loop μ-loop
-forms-requires c κs = omega (arith, c .before .pre .0 .rows)
-
-start-requires : tie.Need-start-requires Inv-loop μ-loop
-start-requires c κs = search needs
-
 loop-holds : tie.Need-loop-holds Inv-loop μ-loop
 loop-holds c =
     let b = c .before .before .before .before .args .b in
@@ -32,12 +26,6 @@ next-requires c κs =
     let F = L .before .before .before in
     let pre = F .before .before .pre in
     (pre .0, pre .1, F .forms .ensures, L .loop .inv .2, omega (arith, pre .0 .outputs))
-
-add-i : tie.Need-add-i Inv-loop μ-loop
-add-i c = omega arith
-
-loop-less : tie.Need-loop-less Inv-loop μ-loop
-loop-less c = omega arith
 
 loop-again : tie.Need-loop-again Inv-loop μ-loop
 loop-again c =
@@ -61,11 +49,11 @@ after-outputs-spec =
     (tie.spec
     Inv-loop
     μ-loop
-    forms-requires
-    start-requires
+    (λ c κs. omega (arith, c .before .pre .0 .rows))
+    (λ c κs. search needs)
     loop-holds
     next-requires
-    add-i
-    loop-less
+    (λ c. omega arith)
+    (λ c. omega arith)
     loop-again
     returns)

@@ -24,19 +24,10 @@ next-is Q =
     let column = Q .before .before .before .column .ensures .0 (g .points .now) (S .pre .2) in
     ap (λ (s : Pair). withFraction (g .b) (g .i) s (g .c)) (Q .solution .ensures .0 ∙ ap solved column)
 
-add-slack : tie.Need-add-slack
-add-slack c = omega (arith, slack-low (c .before .before .pre .0))
-
 column-requires : tie.Need-column-requires
 column-requires c κs =
     let S = c .before .before in
     (S .pre .0, S .pre .4, S .pre .3 .denominator, record { points = S .args .points .now; is = S .pre .2 })
-
-sub-solution : tie.Need-sub-solution
-sub-solution c = omega (arith, slack-low (c .before .before .before .before .before .pre .0))
-
-sub-solution-2 : tie.Need-sub-solution-2
-sub-solution-2 c = omega (arith, slack-low (c .before .before .before .before .before .pre .0))
 
 solution-requires : tie.Need-solution-requires
 solution-requires c κs =
@@ -52,15 +43,6 @@ solution-requires c κs =
       S .pre .2,
     )
 
-add-length : tie.Need-add-length
-add-length c = search needs
-
-length-requires : tie.Need-length-requires
-length-requires c κs = search needs
-
-unsolvable-requires : tie.Need-unsolvable-requires
-unsolvable-requires c κs = search needs
-
 returns : tie.Need-returns
 returns c =
     let A = c .before .before in
@@ -70,12 +52,6 @@ returns c =
       c .unsolvable .ensures ∙ fraction-none (g .b) (g .i) (Q .solution .result) (g .c) (sym (A .length .ensures .0) ∙ c .before .if1 .taken) ∙ next-is Q,
       rw (c .unsolvable .ensures) (fitting-unsolvable (g .b)),
     )
-
-add-lowest-terms : tie.Need-add-lowest-terms
-add-lowest-terms c = search needs
-
-lowest-terms-requires : tie.Need-lowest-terms-requires
-lowest-terms-requires c κs = search needs
 
 add-extended : tie.Need-add-extended
 add-extended c =
@@ -109,17 +85,17 @@ pub next-spec : {M : Type 1} → statement M
 next-spec =
     tie.close
     (tie.spec
-    add-slack
+    (λ c. omega (arith, slack-low (c .before .before .pre .0)))
     column-requires
-    sub-solution
-    sub-solution-2
+    (λ c. omega (arith, slack-low (c .before .before .before .before .before .pre .0)))
+    (λ c. omega (arith, slack-low (c .before .before .before .before .before .pre .0)))
     solution-requires
-    add-length
-    length-requires
-    unsolvable-requires
+    (λ c. search needs)
+    (λ c κs. search needs)
+    (λ c κs. search needs)
     returns
-    add-lowest-terms
-    lowest-terms-requires
+    (λ c. search needs)
+    (λ c κs. search needs)
     add-extended
     extended-requires
     returns-2)

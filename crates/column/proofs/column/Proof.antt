@@ -19,9 +19,6 @@ Inv-loop xs values i prime rows gs r₀ l₀ r l =
 abbrev μ-loop : tie.MeasureT-loop
 μ-loop xs values i prime rows gs r₀ l₀ r l = rows - l
 
-add-values : tie.Need-add-values Inv-loop μ-loop
-add-values c = omega (arith, denominator-low (c .before .pre .0))
-
 values-requires : tie.Need-values-requires Inv-loop μ-loop
 values-requires c κs =
     let low = denominator-low (c .before .pre .0) in
@@ -29,42 +26,6 @@ values-requires c κs =
 
 loop-holds : tie.Need-loop-holds Inv-loop μ-loop
 loop-holds c = (omega arith, filled-none _ _ refl)
-
-mul-product : tie.Need-mul-product Inv-loop μ-loop
-mul-product c = omega arith
-
-array-read-product : tie.Need-array-read-product Inv-loop μ-loop
-array-read-product c = omega arith
-
-cast-product : tie.Need-cast-product Inv-loop μ-loop
-cast-product c = search needs
-
-mul-product-2 : tie.Need-mul-product-2 Inv-loop μ-loop
-mul-product-2 c = omega arith
-
-add-product : tie.Need-add-product Inv-loop μ-loop
-add-product c = omega arith
-
-mul-product-3 : tie.Need-mul-product-3 Inv-loop μ-loop
-mul-product-3 c = omega arith
-
-element-copy-out-product : tie.Need-element-copy-out-product Inv-loop μ-loop
-element-copy-out-product c = omega arith
-
-product-requires : tie.Need-product-requires Inv-loop μ-loop
-product-requires c κs = search needs
-
-mul-r : tie.Need-mul-r Inv-loop μ-loop
-mul-r c = omega arith
-
-element-write-r : tie.Need-element-write-r Inv-loop μ-loop
-element-write-r c = omega arith
-
-add-l : tie.Need-add-l Inv-loop μ-loop
-add-l c = omega arith
-
-loop-less : tie.Need-loop-less Inv-loop μ-loop
-loop-less c = omega arith
 
 loop-again : tie.Need-loop-again Inv-loop μ-loop
 loop-again c =
@@ -89,20 +50,20 @@ column-spec =
     (tie.spec
     Inv-loop
     μ-loop
-    add-values
+    (λ c. omega (arith, denominator-low (c .before .pre .0)))
     values-requires
     loop-holds
-    mul-product
-    array-read-product
-    cast-product
-    mul-product-2
-    add-product
-    mul-product-3
-    element-copy-out-product
-    product-requires
-    mul-r
-    element-write-r
-    add-l
-    loop-less
+    (λ c. omega arith)
+    (λ c. omega arith)
+    (λ c. search needs)
+    (λ c. omega arith)
+    (λ c. omega arith)
+    (λ c. omega arith)
+    (λ c. omega arith)
+    (λ c κs. search needs)
+    (λ c. omega arith)
+    (λ c. omega arith)
+    (λ c. omega arith)
+    (λ c. omega arith)
     loop-again
     returns)

@@ -15,12 +15,6 @@ Inv-loop q a₀ k n lb b m j₀ a j = (j ≤ lb) × Replaced (cancelledAt (modul
 abbrev μ-loop : tie.MeasureT-loop
 μ-loop q a₀ k n lb b m j₀ a j = lb - j
 
-modulus-requires : tie.Need-modulus-requires Inv-loop μ-loop
-modulus-requires c κs = search needs
-
-sub-m : tie.Need-sub-m Inv-loop μ-loop
-sub-m c = omega arith
-
 loop-holds : tie.Need-loop-holds Inv-loop μ-loop
 loop-holds c =
     let pre = c .before .pre in
@@ -32,36 +26,6 @@ loop-holds c =
         rest = λ i l. refl;
       },
     )
-
-add-place : tie.Need-add-place Inv-loop μ-loop
-add-place c = omega arith
-
-mul-plus-product : tie.Need-mul-plus-product Inv-loop μ-loop
-mul-plus-product c = omega arith
-
-element-copy-out-plus-product : tie.Need-element-copy-out-plus-product Inv-loop μ-loop
-element-copy-out-plus-product c = omega arith
-
-mul-plus-product-2 : tie.Need-mul-plus-product-2 Inv-loop μ-loop
-mul-plus-product-2 c = omega arith
-
-element-copy-out-plus-product-2 : tie.Need-element-copy-out-plus-product-2 Inv-loop μ-loop
-element-copy-out-plus-product-2 c = omega arith
-
-plus-product-requires : tie.Need-plus-product-requires Inv-loop μ-loop
-plus-product-requires c κs = search needs
-
-mul-a : tie.Need-mul-a Inv-loop μ-loop
-mul-a c = omega arith
-
-element-write-a : tie.Need-element-write-a Inv-loop μ-loop
-element-write-a c = search needs
-
-add-j : tie.Need-add-j Inv-loop μ-loop
-add-j c = omega arith
-
-loop-less : tie.Need-loop-less Inv-loop μ-loop
-loop-less c = omega arith
 
 loop-again : tie.Need-loop-again Inv-loop μ-loop
 loop-again c =
@@ -88,18 +52,18 @@ cancel-spec =
     (tie.spec
     Inv-loop
     μ-loop
-    modulus-requires
-    sub-m
+    (λ c κs. search needs)
+    (λ c. omega arith)
     loop-holds
-    add-place
-    mul-plus-product
-    element-copy-out-plus-product
-    mul-plus-product-2
-    element-copy-out-plus-product-2
-    plus-product-requires
-    mul-a
-    element-write-a
-    add-j
-    loop-less
+    (λ c. omega arith)
+    (λ c. omega arith)
+    (λ c. omega arith)
+    (λ c. omega arith)
+    (λ c. omega arith)
+    (λ c κs. search needs)
+    (λ c. omega arith)
+    (λ c. search needs)
+    (λ c. omega arith)
+    (λ c. omega arith)
     loop-again
     returns)

@@ -18,35 +18,8 @@ Inv-loop q points rows end r₀ l₀ r l =
 abbrev μ-loop : tie.MeasureT-loop
 μ-loop q points rows end r₀ l₀ r l = end - l
 
-add-end : tie.Need-add-end Inv-loop μ-loop
-add-end c = omega arith
-
-mul-end : tie.Need-mul-end Inv-loop μ-loop
-mul-end c = omega arith
-
 loop-holds : tie.Need-loop-holds Inv-loop μ-loop
 loop-holds c = (omega arith, filled-none _ _ refl)
-
-mul-as-factor : tie.Need-mul-as-factor Inv-loop μ-loop
-mul-as-factor c = omega arith
-
-element-copy-out-as-factor : tie.Need-element-copy-out-as-factor Inv-loop μ-loop
-element-copy-out-as-factor c = omega arith
-
-as-factor-requires : tie.Need-as-factor-requires Inv-loop μ-loop
-as-factor-requires c κs = search needs
-
-mul-r : tie.Need-mul-r Inv-loop μ-loop
-mul-r c = omega arith
-
-element-write-r : tie.Need-element-write-r Inv-loop μ-loop
-element-write-r c = search needs
-
-add-l : tie.Need-add-l Inv-loop μ-loop
-add-l c = omega arith
-
-loop-less : tie.Need-loop-less Inv-loop μ-loop
-loop-less c = omega arith
 
 loop-again : tie.Need-loop-again Inv-loop μ-loop
 loop-again c =
@@ -64,15 +37,15 @@ forms-spec =
     (tie.spec
     Inv-loop
     μ-loop
-    add-end
-    mul-end
+    (λ c. omega arith)
+    (λ c. omega arith)
     loop-holds
-    mul-as-factor
-    element-copy-out-as-factor
-    as-factor-requires
-    mul-r
-    element-write-r
-    add-l
-    loop-less
+    (λ c. omega arith)
+    (λ c. omega arith)
+    (λ c κs. search needs)
+    (λ c. omega arith)
+    (λ c. search needs)
+    (λ c. omega arith)
+    (λ c. omega arith)
     loop-again
     returns)

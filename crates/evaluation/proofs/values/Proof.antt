@@ -27,30 +27,12 @@ start c = c .before .before .before .before .before .before .before .before
 size-of : (S : tie.Start Inv-loop μ-loop) → length (S .args .t5 .c) ≡ 32
 size-of S = search needs
 
-modulus-requires : tie.Need-modulus-requires Inv-loop μ-loop
-modulus-requires c κs = search needs
-
-cast-ps : tie.Need-cast-ps Inv-loop μ-loop
-cast-ps c = omega (arith, c .modulus .ensures, modulus-small (c .before .args .q))
-
-inverse-requires : tie.Need-inverse-requires Inv-loop μ-loop
-inverse-requires c κs = search needs
-
 loop-holds : tie.Need-loop-holds Inv-loop μ-loop
 loop-holds c =
     let S = c .before .before in
     let e = c .before .modulus .ensures in
     let zero : (l : ℕ) → at (replicate 32 0) l < c .before .modulus .result = λ l. rw (at-zeros 32 l, e) (modulus-positive (S .args .q)) in
     (omega arith, record { size = refl; below = zero }, λ points h. values-start _ _ _ points _ (S .pre .2 .within))
-
-sub-k : tie.Need-sub-k Inv-loop μ-loop
-sub-k c = omega arith
-
-mul-horner : tie.Need-mul-horner Inv-loop μ-loop
-mul-horner c = omega arith
-
-element-copy-out-horner : tie.Need-element-copy-out-horner Inv-loop μ-loop
-element-copy-out-horner c = omega arith
 
 cast-horner : tie.Need-cast-horner Inv-loop μ-loop
 cast-horner c =
@@ -70,9 +52,6 @@ horner-requires c κs =
     let forms : Residues (replicate 32 (M .before .modulus .result)) (S .args .xs .now) =
     record { size = narrow .size; below = λ l. omega (arith, M .before .modulus .ensures, narrow .below l) } in
     (S .pre .0, cs .moduli, forms, inv .1, low)
-
-loop-less : tie.Need-loop-less Inv-loop μ-loop
-loop-less c = omega arith
 
 loop-again : tie.Need-loop-again Inv-loop μ-loop
 loop-again c =
@@ -105,15 +84,15 @@ values-spec =
     (tie.spec
     Inv-loop
     μ-loop
-    modulus-requires
-    cast-ps
-    inverse-requires
+    (λ c κs. search needs)
+    (λ c. omega (arith, c .modulus .ensures, modulus-small (c .before .args .q)))
+    (λ c κs. search needs)
     loop-holds
-    sub-k
-    mul-horner
-    element-copy-out-horner
+    (λ c. omega arith)
+    (λ c. omega arith)
+    (λ c. omega arith)
     cast-horner
     horner-requires
-    loop-less
+    (λ c. omega arith)
     loop-again
     returns)

@@ -16,24 +16,9 @@ use Rattle.extension.proofs.ExtensionLaws.{output-added, output-left, d
 use Rattle.extension.proofs.extended.Statement.{statement}
 use Rattle.extension.proofs.extended.Tie as tie
 
-length-requires : tie.Need-length-requires
-length-requires c κs = search needs
-
-length-requires-2 : tie.Need-length-requires-2
-length-requires-2 c κs = search needs
-
-numerator-bound-requires : tie.Need-numerator-bound-requires
-numerator-bound-requires c κs = search needs
-
 -- where the function began, seen from after the numerator's bound
 abbrev start : tie.After-numerator-bound → tie.Start
 start A = A .before .before .before
-
-add-if1 : tie.Need-add-if1
-add-if1 c = omega (arith, numerator-low (start c .pre .0) (start c .args .i))
-
-unsolvable-requires : tie.Need-unsolvable-requires
-unsolvable-requires c κs = search needs
 
 returns : tie.Need-returns
 returns c =
@@ -41,15 +26,6 @@ returns c =
       c .unsolvable .ensures ∙ numerator-too-long (g .b) (g .i) (g .a .c) (g .t6 .c) (g .c) (omega arith),
       rw (c .unsolvable .ensures) (fitting-unsolvable (g .b)),
     )
-
-element-copy-out-if3 : tie.Need-element-copy-out-if3
-element-copy-out-if3 c = search needs
-
-mul-a : tie.Need-mul-a
-mul-a c = search needs
-
-element-set-from-a : tie.Need-element-set-from-a
-element-set-from-a c = search needs
 
 -- past the test: the numerator keeps to its bound
 numerator-fits : (E : tie.Else1) → let g = start (E .before) .args in
@@ -97,22 +73,10 @@ returns-3 c =
 abbrev start-of-other : tie.After-g → tie.Start
 start-of-other G = start (G .before .before .before)
 
-add-length : tie.Need-add-length
-add-length c = omega (arith, denominator-low (start-of-other c .pre .0))
-
 length-requires-3 : tie.Need-length-requires-3
 length-requires-3 c κs =
     let S = start-of-other c in
     (omega (arith, denominator-low (S .pre .0)), S .pre .1 .denominator .within)
-
-add-if5 : tie.Need-add-if5
-add-if5 c = omega (arith, denominator-low (start-of-other (c .before) .pre .0))
-
-add-if5-2 : tie.Need-add-if5-2
-add-if5-2 c = omega (arith, denominator-low (start-of-other (c .before) .pre .0))
-
-unsolvable-requires-2 : tie.Need-unsolvable-requires-2
-unsolvable-requires-2 c κs = search needs
 
 returns-4 : tie.Need-returns-4
 returns-4 c =
@@ -135,12 +99,6 @@ product-requires c κs =
       rw (L .length3 .ensures .0) (bounded-length (S .pre .1 .denominator)),
       rw (L .before .before .before .before .before .length2 .ensures .0) (bounded-length (S .pre .5)),
     )
-
-mul-a-2 : tie.Need-mul-a-2
-mul-a-2 c = search needs
-
-element-set-from-a-2 : tie.Need-element-set-from-a-2
-element-set-from-a-2 c = search needs
 
 -- past both tests: what was raised, with the output, is the extended candidate
 whole : (R : tie.After-raised) → let g = start-of-other (R .before .before .before) .args in
@@ -171,26 +129,26 @@ pub extended-spec : {M : Type 1} → statement M
 extended-spec =
     tie.close
     (tie.spec
-    length-requires
-    length-requires-2
-    numerator-bound-requires
-    add-if1
-    unsolvable-requires
+    (λ c κs. search needs)
+    (λ c κs. search needs)
+    (λ c κs. search needs)
+    (λ c. omega (arith, numerator-low (start c .pre .0) (start c .args .i)))
+    (λ c κs. search needs)
     returns
-    element-copy-out-if3
-    mul-a
-    element-set-from-a
+    (λ c. search needs)
+    (λ c. search needs)
+    (λ c. search needs)
     returns-2
     returns-3
-    add-length
+    (λ c. omega (arith, denominator-low (start-of-other c .pre .0)))
     length-requires-3
-    add-if5
-    add-if5-2
-    unsolvable-requires-2
+    (λ c. omega (arith, denominator-low (start-of-other (c .before) .pre .0)))
+    (λ c. omega (arith, denominator-low (start-of-other (c .before) .pre .0)))
+    (λ c κs. search needs)
     returns-4
     raised-requires
     product-requires
-    mul-a-2
-    element-set-from-a-2
+    (λ c. search needs)
+    (λ c. search needs)
     returns-5
     returns-6)

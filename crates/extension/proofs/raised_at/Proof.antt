@@ -16,18 +16,6 @@ short : (J : tie.Joined1) → let A = J .before in 0 < A .length .result
     → A .length .result + A .before .before .before .args .lh ≤ A .before .before .numerator-bound .result + 2
 short J = ⊎-elim (λ w l. omega arith) (λ w l. omega arith) (J .if1 .came)
 
-numerator-bound-requires : tie.Need-numerator-bound-requires
-numerator-bound-requires c κs = search needs
-
-mul-f : tie.Need-mul-f
-mul-f c = search needs
-
-element-copy-out-f : tie.Need-element-copy-out-f
-element-copy-out-f c = search needs
-
-add-length : tie.Need-add-length
-add-length c = omega (arith, numerator-low (c .before .before .pre .0) (c .before .before .args .j))
-
 length-requires : tie.Need-length-requires
 length-requires c κs =
     let S = c .before .before in
@@ -42,9 +30,6 @@ add-if2-2 : tie.Need-add-if2-2
 add-if2-2 c =
     let S = c .before .before .before .before in
     omega (arith, numerator-low (S .pre .0) (S .args .j))
-
-unsolvable-requires : tie.Need-unsolvable-requires
-unsolvable-requires c κs = search needs
 
 returns : tie.Need-returns
 returns c =
@@ -65,12 +50,6 @@ product-requires c κs =
       S .pre .5,
     )
 
-mul-product : tie.Need-mul-product
-mul-product c = search needs
-
-element-set-from-product : tie.Need-element-set-from-product
-element-set-from-product c = search needs
-
 returns-2 : tie.Need-returns-2
 returns-2 c =
     let A = c .before .before in
@@ -88,16 +67,16 @@ pub raised-at-spec : {M : Type 1} → statement M
 raised-at-spec =
     tie.close
     (tie.spec
-    numerator-bound-requires
-    mul-f
-    element-copy-out-f
-    add-length
+    (λ c κs. search needs)
+    (λ c. search needs)
+    (λ c. search needs)
+    (λ c. omega (arith, numerator-low (c .before .before .pre .0) (c .before .before .args .j)))
     length-requires
     add-if2
     add-if2-2
-    unsolvable-requires
+    (λ c κs. search needs)
     returns
     product-requires
-    mul-product
-    element-set-from-product
+    (λ c. search needs)
+    (λ c. search needs)
     returns-2)

@@ -49,12 +49,6 @@ quotient-length H =
     let e = H .length4 .ensures .0 ∙ ap lengthOf (quotient-is Q) in
     omega arith
 
-length-requires : tie.Need-length-requires
-length-requires c κs = search needs
-
-length-requires-2 : tie.Need-length-requires-2
-length-requires-2 c κs = search needs
-
 gcd-requires : tie.Need-gcd-requires
 gcd-requires c κs =
     let pre = c .before .before .pre in
@@ -88,15 +82,6 @@ length-requires-4 c κs = (omega arith, λ k l. c .before .before .divide2 .ensu
 
 sub-reciprocal : tie.Need-sub-reciprocal
 sub-reciprocal c = quotient-length c
-
-mul-reciprocal : tie.Need-mul-reciprocal
-mul-reciprocal c = search needs
-
-element-copy-out-reciprocal : tie.Need-element-copy-out-reciprocal
-element-copy-out-reciprocal c = search needs
-
-reciprocal-requires : tie.Need-reciprocal-requires
-reciprocal-requires c κs = search needs
 
 scaled-requires : tie.Need-scaled-requires
 scaled-requires c κs =
@@ -132,17 +117,17 @@ pub lowest-terms-spec : {M : Type 1} → statement M
 lowest-terms-spec =
     tie.close
     (tie.spec
-    length-requires
-    length-requires-2
+    (λ c κs. search needs)
+    (λ c κs. search needs)
     gcd-requires
     length-requires-3
     divide-requires
     divide-requires-2
     length-requires-4
     sub-reciprocal
-    mul-reciprocal
-    element-copy-out-reciprocal
-    reciprocal-requires
+    (λ c. search needs)
+    (λ c. search needs)
+    (λ c κs. search needs)
     scaled-requires
     scaled-requires-2
     returns)

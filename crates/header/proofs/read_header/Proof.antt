@@ -15,48 +15,6 @@ use Rattle.header.proofs.read_header.Tie as tie
 field-at : (s : List ℕ) {v at : ℕ} (k bits : ℕ) → at ≡ k → v ≡ fieldOf s at bits → v ≡ fieldOf s k bits
 field-at s {v} k bits e h = subst (λ (x : ℕ). v ≡ fieldOf s x bits) e h
 
-take-requires : tie.Need-take-requires
-take-requires c κs = search needs
-
-take-requires-2 : tie.Need-take-requires-2
-take-requires-2 c κs = search needs
-
-take-requires-3 : tie.Need-take-requires-3
-take-requires-3 c κs = search needs
-
-take-requires-4 : tie.Need-take-requires-4
-take-requires-4 c κs = search needs
-
-take-requires-5 : tie.Need-take-requires-5
-take-requires-5 c κs = search needs
-
-take-requires-6 : tie.Need-take-requires-6
-take-requires-6 c κs = search needs
-
-take-requires-7 : tie.Need-take-requires-7
-take-requires-7 c κs = search needs
-
-prime-of-code-requires : tie.Need-prime-of-code-requires
-prime-of-code-requires c κs = search needs
-
-size-requires : tie.Need-size-requires
-size-requires c κs = search needs
-
-add-t13 : tie.Need-add-t13
-add-t13 c = omega (arith, c .size .ensures, c .before .before .before .before .before .before .before .take2 .ensures .0)
-
-size-requires-2 : tie.Need-size-requires-2
-size-requires-2 c κs = search needs
-
-size-requires-3 : tie.Need-size-requires-3
-size-requires-3 c κs = search needs
-
-size-requires-4 : tie.Need-size-requires-4
-size-requires-4 c κs = search needs
-
-size-requires-5 : tie.Need-size-requires-5
-size-requires-5 c κs = search needs
-
 returns : tie.Need-returns
 unfolding boundsOf spareBitOf
 returns c =
@@ -81,18 +39,18 @@ pub read-header-spec : {M : Type 1} → statement M
 read-header-spec =
     tie.close
     (tie.spec
-    take-requires
-    take-requires-2
-    take-requires-3
-    take-requires-4
-    take-requires-5
-    take-requires-6
-    take-requires-7
-    prime-of-code-requires
-    size-requires
-    add-t13
-    size-requires-2
-    size-requires-3
-    size-requires-4
-    size-requires-5
+    (λ c κs. search needs)
+    (λ c κs. search needs)
+    (λ c κs. search needs)
+    (λ c κs. search needs)
+    (λ c κs. search needs)
+    (λ c κs. search needs)
+    (λ c κs. search needs)
+    (λ c κs. search needs)
+    (λ c κs. search needs)
+    (λ c. omega (arith, c .size .ensures, c .before .before .before .before .before .before .before .take2 .ensures .0))
+    (λ c κs. search needs)
+    (λ c κs. search needs)
+    (λ c κs. search needs)
+    (λ c κs. search needs)
     returns)

@@ -27,15 +27,6 @@ Inv-loop q points xs z rows a0₀ b0₀ a1₀ b1₀ p ps v vs d0₀ d1₀ s₀ k
 abbrev μ-loop : tie.MeasureT-loop
 μ-loop q points xs z rows a0₀ b0₀ a1₀ b1₀ p ps v vs d0₀ d1₀ s₀ k₀ a0 b0 a1 b1 d0 d1 s k = rows - k
 
-modulus-requires : tie.Need-modulus-requires Inv-loop μ-loop
-modulus-requires c κs = search needs
-
-cast-p : tie.Need-cast-p Inv-loop μ-loop
-cast-p c = omega (arith, c .modulus .ensures, modulus-small (c .before .args .q))
-
-inverse-requires : tie.Need-inverse-requires Inv-loop μ-loop
-inverse-requires c κs = search needs
-
 negations-requires : tie.Need-negations-requires Inv-loop μ-loop
 negations-requires c κs =
     let S = c .before .before in
@@ -59,9 +50,6 @@ loop-holds c =
       omega (arith, S .pre .2),
       omega (arith, S .pre .3),
     )
-
-row-requires : tie.Need-row-requires Inv-loop μ-loop
-row-requires c κs = omega (arith, c .loop-test .taken, c .before .before .before .before .before .before .pre .0 .few)
 
 step-requires : tie.Need-step-requires Inv-loop μ-loop
 step-requires c κs =
@@ -98,9 +86,6 @@ add-k : tie.Need-add-k Inv-loop μ-loop
 add-k c =
     let I = c .before .before .before .before .before .before .before .before .before .before in
     omega (arith, I .loop-test .taken, I .before .before .before .before .before .before .pre .0 .few)
-
-loop-less : tie.Need-loop-less Inv-loop μ-loop
-loop-less c = omega (arith, c .before .before .before .before .before .before .before .before .before .before .loop-test .taken)
 
 loop-again : tie.Need-loop-again Inv-loop μ-loop
 loop-again c =
@@ -139,14 +124,14 @@ after-rows-spec =
     (tie.spec
     Inv-loop
     μ-loop
-    modulus-requires
-    cast-p
-    inverse-requires
+    (λ c κs. search needs)
+    (λ c. omega (arith, c .modulus .ensures, modulus-small (c .before .args .q)))
+    (λ c κs. search needs)
     negations-requires
     loop-holds
-    row-requires
+    (λ c κs. omega (arith, c .loop-test .taken, c .before .before .before .before .before .before .pre .0 .few))
     step-requires
     add-k
-    loop-less
+    (λ c. omega (arith, c .before .before .before .before .before .before .before .before .before .before .loop-test .taken))
     loop-again
     returns)

@@ -5,15 +5,6 @@ use borrow.Author.Needs.{needs}
 use Rattle.interpolation.proofs.solution.Statement.{statement}
 use Rattle.interpolation.proofs.solution.Tie as tie
 
-array-write-a0 : tie.Need-array-write-a0
-array-write-a0 c = search needs
-
-array-write-b1 : tie.Need-array-write-b1
-array-write-b1 c = search needs
-
-started-requires : tie.Need-started-requires
-started-requires c κs = search needs
-
 after-rows-requires : tie.Need-after-rows-requires
 after-rows-requires c κs =
     let W = c .before .before .before .before in
@@ -51,9 +42,9 @@ pub solution-spec : {M : Type 1} → statement M
 solution-spec =
     tie.close
     (tie.spec
-    array-write-a0
-    array-write-b1
-    started-requires
+    (λ c. search needs)
+    (λ c. search needs)
+    (λ c κs. search needs)
     after-rows-requires
     paired-requires
     paired-requires-2

@@ -20,12 +20,6 @@ Inv-loop i xs gs values q rows fs word₀ r₀ word r =
 abbrev μ-loop : tie.MeasureT-loop
 μ-loop i xs gs values q rows fs word₀ r₀ word r = rows - r
 
-numerator-bound-requires : tie.Need-numerator-bound-requires Inv-loop μ-loop
-numerator-bound-requires c κs = search needs
-
-add-values : tie.Need-add-values Inv-loop μ-loop
-add-values c = omega arith
-
 values-requires : tie.Need-values-requires Inv-loop μ-loop
 values-requires c κs =
     let S = c .before in
@@ -35,43 +29,10 @@ loop-holds : tie.Need-loop-holds Inv-loop μ-loop
 unfolding wordOf
 loop-holds c = (omega arith, refl)
 
-mul-output-is-wrong : tie.Need-mul-output-is-wrong Inv-loop μ-loop
-mul-output-is-wrong c = omega arith
-
-array-read-output-is-wrong : tie.Need-array-read-output-is-wrong Inv-loop μ-loop
-array-read-output-is-wrong c = omega arith
-
-mul-output-is-wrong-2 : tie.Need-mul-output-is-wrong-2 Inv-loop μ-loop
-mul-output-is-wrong-2 c = omega arith
-
-element-copy-out-output-is-wrong : tie.Need-element-copy-out-output-is-wrong Inv-loop μ-loop
-element-copy-out-output-is-wrong c = omega arith
-
-mul-output-is-wrong-3 : tie.Need-mul-output-is-wrong-3 Inv-loop μ-loop
-mul-output-is-wrong-3 c = omega arith
-
-add-output-is-wrong : tie.Need-add-output-is-wrong Inv-loop μ-loop
-add-output-is-wrong c = omega arith
-
-mul-output-is-wrong-4 : tie.Need-mul-output-is-wrong-4 Inv-loop μ-loop
-mul-output-is-wrong-4 c = omega arith
-
-element-copy-out-output-is-wrong-2 : tie.Need-element-copy-out-output-is-wrong-2 Inv-loop μ-loop
-element-copy-out-output-is-wrong-2 c = omega arith
-
-output-is-wrong-requires : tie.Need-output-is-wrong-requires Inv-loop μ-loop
-output-is-wrong-requires c κs = search needs
-
 with-row-requires : tie.Need-with-row-requires Inv-loop μ-loop
 with-row-requires c κs =
     let head = c .before .before .before .before in
     (omega arith, rw (head .loop .inv .1) (row-room (head .loop .r) _ (omega arith)))
-
-add-r : tie.Need-add-r Inv-loop μ-loop
-add-r c = omega arith
-
-loop-less : tie.Need-loop-less Inv-loop μ-loop
-loop-less c = omega arith
 
 loop-again : tie.Need-loop-again Inv-loop μ-loop
 loop-again c =
@@ -97,21 +58,21 @@ wrong-values-spec =
     (tie.spec
     Inv-loop
     μ-loop
-    numerator-bound-requires
-    add-values
+    (λ c κs. search needs)
+    (λ c. omega arith)
     values-requires
     loop-holds
-    mul-output-is-wrong
-    array-read-output-is-wrong
-    mul-output-is-wrong-2
-    element-copy-out-output-is-wrong
-    mul-output-is-wrong-3
-    add-output-is-wrong
-    mul-output-is-wrong-4
-    element-copy-out-output-is-wrong-2
-    output-is-wrong-requires
+    (λ c. omega arith)
+    (λ c. omega arith)
+    (λ c. omega arith)
+    (λ c. omega arith)
+    (λ c. omega arith)
+    (λ c. omega arith)
+    (λ c. omega arith)
+    (λ c. omega arith)
+    (λ c κs. search needs)
     with-row-requires
-    add-r
-    loop-less
+    (λ c. omega arith)
+    (λ c. omega arith)
     loop-again
     returns)

@@ -16,41 +16,8 @@ Inv-loop ps from n a₀ b ds dl cs cl start end k₀ a k =
 abbrev μ-loop : tie.MeasureT-loop
 μ-loop ps from n a₀ b ds dl cs cl start end k₀ a k = end - k
 
-mul-start : tie.Need-mul-start Inv-loop μ-loop
-mul-start c = omega arith
-
-add-end : tie.Need-add-end Inv-loop μ-loop
-add-end c = omega arith
-
-mul-end : tie.Need-mul-end Inv-loop μ-loop
-mul-end c = omega arith
-
 loop-holds : tie.Need-loop-holds Inv-loop μ-loop
 loop-holds c = (omega arith, omega arith, changed-none _ _ _ (c .pre .3 .size))
-
-mul-p : tie.Need-mul-p Inv-loop μ-loop
-mul-p c = omega arith
-
-element-copy-out-p : tie.Need-element-copy-out-p Inv-loop μ-loop
-element-copy-out-p c = omega arith
-
-mul-product : tie.Need-mul-product Inv-loop μ-loop
-mul-product c = omega arith
-
-array-read-product : tie.Need-array-read-product Inv-loop μ-loop
-array-read-product c = omega arith
-
-mul-product-2 : tie.Need-mul-product-2 Inv-loop μ-loop
-mul-product-2 c = omega arith
-
-array-read-product-2 : tie.Need-array-read-product-2 Inv-loop μ-loop
-array-read-product-2 c = omega arith
-
-mul-product-3 : tie.Need-mul-product-3 Inv-loop μ-loop
-mul-product-3 c = omega arith
-
-element-copy-out-product : tie.Need-element-copy-out-product Inv-loop μ-loop
-element-copy-out-product c = omega arith
 
 product-requires : tie.Need-product-requires Inv-loop μ-loop
 product-requires c κs =
@@ -60,24 +27,6 @@ product-requires c κs =
     let l : k < 32 = omega arith in
     let m = S .pre .2 in
     (splat-below m k l (S .pre .5), rw (L .loop .inv .2 .rest k (omega arith)) (below-lane m k l (S .pre .3 .below k)))
-
-mul-product-4 : tie.Need-mul-product-4 Inv-loop μ-loop
-mul-product-4 c = omega arith
-
-array-read-product-3 : tie.Need-array-read-product-3 Inv-loop μ-loop
-array-read-product-3 c = omega arith
-
-mul-product-5 : tie.Need-mul-product-5 Inv-loop μ-loop
-mul-product-5 c = omega arith
-
-array-read-product-4 : tie.Need-array-read-product-4 Inv-loop μ-loop
-array-read-product-4 c = omega arith
-
-mul-product-6 : tie.Need-mul-product-6 Inv-loop μ-loop
-mul-product-6 c = omega arith
-
-element-copy-out-product-2 : tie.Need-element-copy-out-product-2 Inv-loop μ-loop
-element-copy-out-product-2 c = omega arith
 
 product-requires-2 : tie.Need-product-requires-2 Inv-loop μ-loop
 product-requires-2 c κs =
@@ -99,18 +48,6 @@ difference-requires c κs =
     let two = reduced-below _ _ _ _ positive (c .product2 .ensures) in
     (one, omega arith)
 
-mul-a : tie.Need-mul-a Inv-loop μ-loop
-mul-a c = omega arith
-
-element-write-a : tie.Need-element-write-a Inv-loop μ-loop
-element-write-a c = search needs
-
-add-k : tie.Need-add-k Inv-loop μ-loop
-add-k c = omega arith
-
-loop-less : tie.Need-loop-less Inv-loop μ-loop
-loop-less c = omega arith
-
 loop-again : tie.Need-loop-again Inv-loop μ-loop
 loop-again c =
     let L = c .before .before .before .before .before .before .before in
@@ -123,9 +60,6 @@ loop-again c =
     (c .before .before .before .product .ensures) (c .before .product2 .ensures) (c .difference .ensures) in
     (omega arith, omega arith, changed-more (inv .2) (c .difference .result) (inv .0) l value)
 
-sub-result : tie.Need-sub-result Inv-loop μ-loop
-sub-result c = omega arith
-
 returns : tie.Need-returns Inv-loop μ-loop
 returns c = (refl, changed-all (c .before .loop .inv .2) (omega arith))
 
@@ -135,31 +69,31 @@ combine-spec =
     (tie.spec
     Inv-loop
     μ-loop
-    mul-start
-    add-end
-    mul-end
+    (λ c. omega arith)
+    (λ c. omega arith)
+    (λ c. omega arith)
     loop-holds
-    mul-p
-    element-copy-out-p
-    mul-product
-    array-read-product
-    mul-product-2
-    array-read-product-2
-    mul-product-3
-    element-copy-out-product
+    (λ c. omega arith)
+    (λ c. omega arith)
+    (λ c. omega arith)
+    (λ c. omega arith)
+    (λ c. omega arith)
+    (λ c. omega arith)
+    (λ c. omega arith)
+    (λ c. omega arith)
     product-requires
-    mul-product-4
-    array-read-product-3
-    mul-product-5
-    array-read-product-4
-    mul-product-6
-    element-copy-out-product-2
+    (λ c. omega arith)
+    (λ c. omega arith)
+    (λ c. omega arith)
+    (λ c. omega arith)
+    (λ c. omega arith)
+    (λ c. omega arith)
     product-requires-2
     difference-requires
-    mul-a
-    element-write-a
-    add-k
-    loop-less
+    (λ c. omega arith)
+    (λ c. search needs)
+    (λ c. omega arith)
+    (λ c. omega arith)
     loop-again
-    sub-result
+    (λ c. omega arith)
     returns)

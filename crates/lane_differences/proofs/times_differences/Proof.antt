@@ -14,35 +14,8 @@ Inv-loop ps vs from n xs x a₀ x0 start end k₀ a k =
 abbrev μ-loop : tie.MeasureT-loop
 μ-loop ps vs from n xs x a₀ x0 start end k₀ a k = end - k
 
-mul-start : tie.Need-mul-start Inv-loop μ-loop
-mul-start c = omega arith
-
-add-end : tie.Need-add-end Inv-loop μ-loop
-add-end c = omega arith
-
-mul-end : tie.Need-mul-end Inv-loop μ-loop
-mul-end c = omega arith
-
 loop-holds : tie.Need-loop-holds Inv-loop μ-loop
 loop-holds c = (omega arith, omega arith, changed-none _ _ _ (c .pre .5 .size))
-
-mul-p : tie.Need-mul-p Inv-loop μ-loop
-mul-p c = omega arith
-
-element-copy-out-p : tie.Need-element-copy-out-p Inv-loop μ-loop
-element-copy-out-p c = omega arith
-
-mul-difference : tie.Need-mul-difference Inv-loop μ-loop
-mul-difference c = omega arith
-
-element-copy-out-difference : tie.Need-element-copy-out-difference Inv-loop μ-loop
-element-copy-out-difference c = omega arith
-
-mul-difference-2 : tie.Need-mul-difference-2 Inv-loop μ-loop
-mul-difference-2 c = omega arith
-
-array-read-difference : tie.Need-array-read-difference Inv-loop μ-loop
-array-read-difference c = omega arith
 
 difference-requires : tie.Need-difference-requires Inv-loop μ-loop
 difference-requires c κs =
@@ -54,21 +27,6 @@ difference-requires c κs =
     let x = splat-below m k l (S .pre .4) in
     (below-lane m k l (S .pre .3 .below k), omega arith)
 
-mul-low : tie.Need-mul-low Inv-loop μ-loop
-mul-low c = omega arith
-
-element-copy-out-low : tie.Need-element-copy-out-low Inv-loop μ-loop
-element-copy-out-low c = omega arith
-
-low-requires : tie.Need-low-requires Inv-loop μ-loop
-low-requires c κs = search needs
-
-mul-product : tie.Need-mul-product Inv-loop μ-loop
-mul-product c = omega arith
-
-element-copy-out-product : tie.Need-element-copy-out-product Inv-loop μ-loop
-element-copy-out-product c = omega arith
-
 product-requires : tie.Need-product-requires Inv-loop μ-loop
 product-requires c κs =
     let L = c .before .before .before .before .before .before .before in
@@ -78,18 +36,6 @@ product-requires c κs =
     let m = S .pre .2 in
     let a = below-lane m k l (S .pre .5 .below k) in
     (less-below _ _ _ (omega arith) (c .before .before .before .difference .ensures), rw (L .loop .inv .2 .rest k (omega arith)) a)
-
-mul-a : tie.Need-mul-a Inv-loop μ-loop
-mul-a c = omega arith
-
-element-write-a : tie.Need-element-write-a Inv-loop μ-loop
-element-write-a c = search needs
-
-add-k : tie.Need-add-k Inv-loop μ-loop
-add-k c = omega arith
-
-loop-less : tie.Need-loop-less Inv-loop μ-loop
-loop-less c = omega arith
 
 loop-again : tie.Need-loop-again Inv-loop μ-loop
 loop-again c =
@@ -103,9 +49,6 @@ loop-again c =
     (c .before .before .before .before .difference .ensures) (c .before .before .low .ensures) same (c .product .ensures) in
     (omega arith, omega arith, changed-more (inv .2) (c .product .result) (inv .0) l value)
 
-sub-result : tie.Need-sub-result Inv-loop μ-loop
-sub-result c = omega arith
-
 returns : tie.Need-returns Inv-loop μ-loop
 returns c = (refl, changed-all (c .before .loop .inv .2) (omega arith))
 
@@ -115,27 +58,27 @@ times-differences-spec =
     (tie.spec
     Inv-loop
     μ-loop
-    mul-start
-    add-end
-    mul-end
+    (λ c. omega arith)
+    (λ c. omega arith)
+    (λ c. omega arith)
     loop-holds
-    mul-p
-    element-copy-out-p
-    mul-difference
-    element-copy-out-difference
-    mul-difference-2
-    array-read-difference
+    (λ c. omega arith)
+    (λ c. omega arith)
+    (λ c. omega arith)
+    (λ c. omega arith)
+    (λ c. omega arith)
+    (λ c. omega arith)
     difference-requires
-    mul-low
-    element-copy-out-low
-    low-requires
-    mul-product
-    element-copy-out-product
+    (λ c. omega arith)
+    (λ c. omega arith)
+    (λ c κs. search needs)
+    (λ c. omega arith)
+    (λ c. omega arith)
     product-requires
-    mul-a
-    element-write-a
-    add-k
-    loop-less
+    (λ c. omega arith)
+    (λ c. search needs)
+    (λ c. omega arith)
+    (λ c. omega arith)
     loop-again
-    sub-result
+    (λ c. omega arith)
     returns)

@@ -17,39 +17,9 @@ Inv-loop ps n a₀ xs xl end lower₀ k₀ a lower k =
 abbrev μ-loop : tie.MeasureT-loop
 μ-loop ps n a₀ xs xl end lower₀ k₀ a lower k = end - k
 
-add-end : tie.Need-add-end Inv-loop μ-loop
-add-end c = omega arith
-
-mul-end : tie.Need-mul-end Inv-loop μ-loop
-mul-end c = omega arith
-
 loop-holds : tie.Need-loop-holds Inv-loop μ-loop
 loop-holds c =
     (omega arith, changed-none _ _ _ (c .pre .2 .size), refl, omega (arith, c .pre .2 .below 0))
-
-mul-p : tie.Need-mul-p Inv-loop μ-loop
-mul-p c = omega arith
-
-element-copy-out-p : tie.Need-element-copy-out-p Inv-loop μ-loop
-element-copy-out-p c = omega arith
-
-mul-here : tie.Need-mul-here Inv-loop μ-loop
-mul-here c = omega arith
-
-element-copy-out-here : tie.Need-element-copy-out-here Inv-loop μ-loop
-element-copy-out-here c = omega arith
-
-mul-product : tie.Need-mul-product Inv-loop μ-loop
-mul-product c = omega arith
-
-array-read-product : tie.Need-array-read-product Inv-loop μ-loop
-array-read-product c = omega arith
-
-mul-product-2 : tie.Need-mul-product-2 Inv-loop μ-loop
-mul-product-2 c = omega arith
-
-array-read-product-2 : tie.Need-array-read-product-2 Inv-loop μ-loop
-array-read-product-2 c = omega arith
 
 product-requires : tie.Need-product-requires Inv-loop μ-loop
 product-requires c κs =
@@ -69,18 +39,6 @@ difference-requires c κs =
     let lower = below-lane (S .pre .1) k l (L .loop .inv .3) in
     let taken = reduced-below _ _ _ _ (omega arith) (c .product .ensures) in
     (lower, omega arith)
-
-mul-a : tie.Need-mul-a Inv-loop μ-loop
-mul-a c = omega arith
-
-element-write-a : tie.Need-element-write-a Inv-loop μ-loop
-element-write-a c = search needs
-
-add-k : tie.Need-add-k Inv-loop μ-loop
-add-k c = omega arith
-
-loop-less : tie.Need-loop-less Inv-loop μ-loop
-loop-less c = omega arith
 
 loop-again : tie.Need-loop-again Inv-loop μ-loop
 loop-again c =
@@ -102,22 +60,22 @@ times-linear-spec =
     (tie.spec
     Inv-loop
     μ-loop
-    add-end
-    mul-end
+    (λ c. omega arith)
+    (λ c. omega arith)
     loop-holds
-    mul-p
-    element-copy-out-p
-    mul-here
-    element-copy-out-here
-    mul-product
-    array-read-product
-    mul-product-2
-    array-read-product-2
+    (λ c. omega arith)
+    (λ c. omega arith)
+    (λ c. omega arith)
+    (λ c. omega arith)
+    (λ c. omega arith)
+    (λ c. omega arith)
+    (λ c. omega arith)
+    (λ c. omega arith)
     product-requires
     difference-requires
-    mul-a
-    element-write-a
-    add-k
-    loop-less
+    (λ c. omega arith)
+    (λ c. search needs)
+    (λ c. omega arith)
+    (λ c. omega arith)
     loop-again
     returns)

@@ -7,12 +7,6 @@ use borrow.Author.Needs.{needs}
 use Rattle.pair_step.proofs.advance.Statement.{statement}
 use Rattle.pair_step.proofs.advance.Tie as tie
 
-add-e : tie.Need-add-e
-add-e c = search needs
-
-add-n : tie.Need-add-n
-add-n c = search needs
-
 times-linear-requires : tie.Need-times-linear-requires
 times-linear-requires c κs =
     let S = c .before .before .before .before in
@@ -59,8 +53,8 @@ pub advance-spec : {M : Type 1} → statement M
 advance-spec =
     tie.close
     (tie.spec
-    add-e
-    add-n
+    (λ c. search needs)
+    (λ c. search needs)
     times-linear-requires
     times-linear-requires-2
     times-differences-requires

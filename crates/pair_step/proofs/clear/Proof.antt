@@ -7,45 +7,18 @@ use borrow.Author.Needs.{needs}
 use Rattle.pair_step.proofs.clear.Statement.{statement}
 use Rattle.pair_step.proofs.clear.Tie as tie
 
-mul-if1 : tie.Need-mul-if1
-mul-if1 c = search needs
-
-element-copy-out-if1 : tie.Need-element-copy-out-if1
-element-copy-out-if1 c = search needs
-
-kept-requires : tie.Need-kept-requires
-kept-requires c κs = search needs
-
 returns : tie.Need-returns
 returns c = inl (c .before .if1 .taken, record { left = refl; right = refl; side = c .kept .ensures; exact = refl })
-
-mul-as-factor : tie.Need-mul-as-factor
-mul-as-factor c = search needs
-
-element-copy-out-as-factor : tie.Need-element-copy-out-as-factor
-element-copy-out-as-factor c = search needs
 
 cast-as-factor : tie.Need-cast-as-factor
 cast-as-factor c =
     let S = c .before .before .before in
     omega (arith, S .pre .4 .below (S .args .r .index), modulus-small (S .args .r .prime))
 
-as-factor-requires : tie.Need-as-factor-requires
-as-factor-requires c κs = search needs
-
-mul-as-factor-2 : tie.Need-mul-as-factor-2
-mul-as-factor-2 c = search needs
-
-element-copy-out-as-factor-2 : tie.Need-element-copy-out-as-factor-2
-element-copy-out-as-factor-2 c = search needs
-
 cast-as-factor-2 : tie.Need-cast-as-factor-2
 cast-as-factor-2 c =
     let S = c .before .before .before .before .before in
     omega (arith, S .pre .6 .below (S .args .r .index), modulus-small (S .args .r .prime))
-
-as-factor-requires-2 : tie.Need-as-factor-requires-2
-as-factor-requires-2 c κs = search needs
 
 combine-requires : tie.Need-combine-requires
 combine-requires c κs =
@@ -124,18 +97,18 @@ pub clear-spec : {M : Type 1} → statement M
 clear-spec =
     tie.close
     (tie.spec
-    mul-if1
-    element-copy-out-if1
-    kept-requires
+    (λ c. search needs)
+    (λ c. search needs)
+    (λ c κs. search needs)
     returns
-    mul-as-factor
-    element-copy-out-as-factor
+    (λ c. search needs)
+    (λ c. search needs)
     cast-as-factor
-    as-factor-requires
-    mul-as-factor-2
-    element-copy-out-as-factor-2
+    (λ c κs. search needs)
+    (λ c. search needs)
+    (λ c. search needs)
     cast-as-factor-2
-    as-factor-requires-2
+    (λ c κs. search needs)
     combine-requires
     combine-requires-2
     combine-requires-3

@@ -9,33 +9,6 @@ use native.Mathlib.Omega.{arith}
 use Rattle.pair_step.proofs.step.Statement.{statement}
 use Rattle.pair_step.proofs.step.Tie as tie
 
-mul-leading : tie.Need-mul-leading
-mul-leading c = search needs
-
-element-copy-out-leading : tie.Need-element-copy-out-leading
-element-copy-out-leading c = search needs
-
-mul-leading-2 : tie.Need-mul-leading-2
-mul-leading-2 c = search needs
-
-element-copy-out-leading-2 : tie.Need-element-copy-out-leading-2
-element-copy-out-leading-2 c = search needs
-
-leading-requires : tie.Need-leading-requires
-leading-requires c κs = search needs
-
-enum-told : tie.Need-enum-told
-enum-told c = search needs
-
-both-kept-requires : tie.Need-both-kept-requires
-both-kept-requires c κs = search needs
-
-enum-told-2 : tie.Need-enum-told-2
-enum-told-2 c = search needs
-
-longer-requires : tie.Need-longer-requires
-longer-requires c κs = search needs
-
 clear-requires : tie.Need-clear-requires
 clear-requires c κs =
     let N = c .before .before .before .before .before .before in
@@ -57,12 +30,6 @@ advance-requires c κs =
     let fits = S .pre .2 in
     let low = S .pre .4 in
     (S .pre .0, S .pre .1, fits, S .pre .3, low .first-small, omega (arith, low .first-low, fits .there, fits .few), S .pre .5)
-
-enum-told-3 : tie.Need-enum-told-3
-enum-told-3 c = search needs
-
-longer-requires-2 : tie.Need-longer-requires-2
-longer-requires-2 c κs = search needs
 
 clear-requires-2 : tie.Need-clear-requires-2
 clear-requires-2 c κs =
@@ -132,19 +99,19 @@ pub step-spec : {M : Type 1} → statement M
 step-spec =
     tie.close
     (tie.spec
-    mul-leading
-    element-copy-out-leading
-    mul-leading-2
-    element-copy-out-leading-2
-    leading-requires
-    enum-told
-    both-kept-requires
-    enum-told-2
-    longer-requires
+    (λ c. search needs)
+    (λ c. search needs)
+    (λ c. search needs)
+    (λ c. search needs)
+    (λ c κs. search needs)
+    (λ c. search needs)
+    (λ c κs. search needs)
+    (λ c. search needs)
+    (λ c κs. search needs)
     clear-requires
     advance-requires
-    enum-told-3
-    longer-requires-2
+    (λ c. search needs)
+    (λ c κs. search needs)
     clear-requires-2
     advance-requires-2
     returns

@@ -16,34 +16,13 @@ Inv-loop q a la b lb r₀ k₀ r k = (k ≤ la + lb - 1) × Filled (λ j. produc
 abbrev μ-loop : tie.MeasureT-loop
 μ-loop q a la b lb r₀ k₀ r k = la + lb - k
 
-zero-requires : tie.Need-zero-requires Inv-loop μ-loop
-zero-requires c κs = search needs
-
 loop-holds : tie.Need-loop-holds Inv-loop μ-loop
 loop-holds c = (omega arith, filled-none _ _ (c .zero .ensures))
-
-add-loop : tie.Need-add-loop Inv-loop μ-loop
-add-loop c = omega arith
-
-add-loop-2 : tie.Need-add-loop-2 Inv-loop μ-loop
-add-loop-2 c = omega arith
 
 product-coefficient-requires : tie.Need-product-coefficient-requires Inv-loop μ-loop
 product-coefficient-requires c κs =
     let pre = c .before .before .before .pre in
     (omega arith, pre .1, pre .2)
-
-mul-r : tie.Need-mul-r Inv-loop μ-loop
-mul-r c = omega arith
-
-element-write-r : tie.Need-element-write-r Inv-loop μ-loop
-element-write-r c = search needs
-
-add-k : tie.Need-add-k Inv-loop μ-loop
-add-k c = omega arith
-
-loop-less : tie.Need-loop-less Inv-loop μ-loop
-loop-less c = omega arith
 
 loop-again : tie.Need-loop-again Inv-loop μ-loop
 loop-again c =
@@ -63,14 +42,14 @@ product-spec =
     (tie.spec
     Inv-loop
     μ-loop
-    zero-requires
+    (λ c κs. search needs)
     loop-holds
-    add-loop
-    add-loop-2
+    (λ c. omega arith)
+    (λ c. omega arith)
     product-coefficient-requires
-    mul-r
-    element-write-r
-    add-k
-    loop-less
+    (λ c. omega arith)
+    (λ c. search needs)
+    (λ c. omega arith)
+    (λ c. omega arith)
     loop-again
     returns)

@@ -17,35 +17,11 @@ Inv-loop q la lb k a b end acc₀ i₀ acc i = (i ≤ k + 1) × (acc ≡ sumBelo
 abbrev μ-loop : tie.MeasureT-loop
 μ-loop q la lb k a b end acc₀ i₀ acc i = end - i
 
-end-of-terms-requires : tie.Need-end-of-terms-requires Inv-loop μ-loop
-end-of-terms-requires c κs = search needs
-
-first-term-requires : tie.Need-first-term-requires Inv-loop μ-loop
-first-term-requires c κs = search needs
-
 loop-holds : tie.Need-loop-holds Inv-loop μ-loop
 loop-holds c =
     let e = c .first-term .ensures in
     let pre = c .before .before .pre in
     (omega arith, sym (rw e (product-start (pre .1) (pre .2) _)), omega arith)
-
-mul-term : tie.Need-mul-term Inv-loop μ-loop
-mul-term c = omega arith
-
-element-copy-out-term : tie.Need-element-copy-out-term Inv-loop μ-loop
-element-copy-out-term c = omega arith
-
-sub-term : tie.Need-sub-term Inv-loop μ-loop
-sub-term c = omega arith
-
-mul-term-2 : tie.Need-mul-term-2 Inv-loop μ-loop
-mul-term-2 c = omega arith
-
-element-copy-out-term-2 : tie.Need-element-copy-out-term-2 Inv-loop μ-loop
-element-copy-out-term-2 c = omega arith
-
-term-requires : tie.Need-term-requires Inv-loop μ-loop
-term-requires c κs = search needs
 
 add-acc : tie.Need-add-acc Inv-loop μ-loop
 add-acc c =
@@ -56,12 +32,6 @@ add-acc c =
     let t = c .term .ensures in
     omega arith
 
-add-i : tie.Need-add-i Inv-loop μ-loop
-add-i c = omega arith
-
-loop-less : tie.Need-loop-less Inv-loop μ-loop
-loop-less c = omega arith
-
 loop-again : tie.Need-loop-again Inv-loop μ-loop
 loop-again c =
     let a = c .before .before .before .before in
@@ -71,9 +41,6 @@ loop-again c =
     let s = sum-more (a .loop .i) (terms (g .args .t2 .c) (g .args .t4 .c) (g .args .k)) in
     let e = a .before .before .end-of-terms .ensures in
     (omega arith, omega arith, omega arith)
-
-reduce-requires : tie.Need-reduce-requires Inv-loop μ-loop
-reduce-requires c κs = search needs
 
 returns : tie.Need-returns Inv-loop μ-loop
 returns c =
@@ -89,18 +56,18 @@ product-coefficient-spec =
     (tie.spec
     Inv-loop
     μ-loop
-    end-of-terms-requires
-    first-term-requires
+    (λ c κs. search needs)
+    (λ c κs. search needs)
     loop-holds
-    mul-term
-    element-copy-out-term
-    sub-term
-    mul-term-2
-    element-copy-out-term-2
-    term-requires
+    (λ c. omega arith)
+    (λ c. omega arith)
+    (λ c. omega arith)
+    (λ c. omega arith)
+    (λ c. omega arith)
+    (λ c κs. search needs)
     add-acc
-    add-i
-    loop-less
+    (λ c. omega arith)
+    (λ c. omega arith)
     loop-again
-    reduce-requires
+    (λ c κs. search needs)
     returns)

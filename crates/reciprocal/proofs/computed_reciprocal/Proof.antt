@@ -17,9 +17,6 @@ Inv-loop q a p acc₀ b₀ acc b = (p ≡ modulusOf q) × (0 < b) × (b < p) × 
 abbrev μ-loop : tie.MeasureT-loop
 μ-loop q a p acc₀ b₀ acc b = b
 
-modulus-requires : tie.Need-modulus-requires Inv-loop μ-loop
-modulus-requires c κs = search needs
-
 loop-holds : tie.Need-loop-holds Inv-loop μ-loop
 loop-holds c =
     let e = c .modulus .ensures in
@@ -28,17 +25,8 @@ loop-holds c =
     let small : a < c .modulus .result = omega (arith, c .before .pre .1) in
     (e, c .before .pre .0, small, omega (arith, P .two), ap (λ x. x % c .modulus .result) (one-mul a) ∙ mod-eq-of-lt small)
 
-div-product : tie.Need-div-product Inv-loop μ-loop
-div-product c = omega arith
-
 sub-product : tie.Need-sub-product Inv-loop μ-loop
 sub-product c = div-le-self _ _
-
-product-requires : tie.Need-product-requires Inv-loop μ-loop
-product-requires c κs = search needs
-
-rem-b : tie.Need-rem-b Inv-loop μ-loop
-rem-b c = omega arith
 
 loop-less : tie.Need-loop-less Inv-loop μ-loop
 loop-less c = mod-lt _ (omega arith)
@@ -73,12 +61,12 @@ computed-reciprocal-spec =
     (tie.spec
     Inv-loop
     μ-loop
-    modulus-requires
+    (λ c κs. search needs)
     loop-holds
-    div-product
+    (λ c. omega arith)
     sub-product
-    product-requires
-    rem-b
+    (λ c κs. search needs)
+    (λ c. omega arith)
     loop-less
     loop-again
     returns)

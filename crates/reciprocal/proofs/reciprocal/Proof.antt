@@ -9,16 +9,10 @@ use borrow.Author.Needs.{needs}
 use Rattle.reciprocal.proofs.reciprocal.Statement.{statement}
 use Rattle.reciprocal.proofs.reciprocal.Tie as tie
 
-reduce-requires : tie.Need-reduce-requires
-reduce-requires c κs = search needs
-
 returns : tie.Need-returns
 returns c =
     let g = c .before .before .args in
     reciprocal-of-zero (modulusOf (g .q)) (g .a) (let t = modulus-prime (g .q) .two in omega arith) (sym (c .before .reduce .ensures) ∙ c .if1 .taken)
-
-enum-told : tie.Need-enum-told
-enum-told c = search needs
 
 reciprocal-of-requires : tie.Need-reciprocal-of-requires
 reciprocal-of-requires c κs =
@@ -47,9 +41,9 @@ pub reciprocal-spec : {M : Type 1} → statement M
 reciprocal-spec =
     tie.close
     (tie.spec
-    reduce-requires
+    (λ c κs. search needs)
     returns
-    enum-told
+    (λ c. search needs)
     reciprocal-of-requires
     computed-reciprocal-requires
     returns-2

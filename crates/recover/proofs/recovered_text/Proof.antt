@@ -13,24 +13,6 @@ use Rattle.recover.proofs.Printing.{always-written, printed}
 use Rattle.recover.proofs.recovered_text.Statement.{statement}
 use Rattle.recover.proofs.recovered_text.Tie as tie
 
-recover-requires : tie.Need-recover-requires
-recover-requires c κs = search needs
-
-read-requires : tie.Need-read-requires
-read-requires c κs = search needs
-
-write-text-requires : tie.Need-write-text-requires
-write-text-requires c κs = search needs
-
-enum-known-count : tie.Need-enum-known-count
-enum-known-count c = search needs
-
-enum-told : tie.Need-enum-told
-enum-told c = search needs
-
-enum-told-2 : tie.Need-enum-told-2
-enum-told-2 c = search needs
-
 -- the calls before the one that writes the text, and what they return and leave
 module _ (v : tie.After-write-text) where
   abbrev reading : tie.After-read
@@ -64,29 +46,11 @@ module _ (v : tie.After-write-text) where
       (recovering .recover .result) (reading .read .result .bounds) (v .write-text .result) known (start .pre) (told .0) (told .1) (told .2)
       (recovering .recover .ensures) n is
 
-same-length : tie.Need-same-length
-same-length c = search needs
-
-same-length-2 : tie.Need-same-length-2
-same-length-2 c = search needs
-
 returns : tie.Need-returns
 returns c = result (c .before .before .before .before .before) _ (c .before .count .given .1)
 
-same-length-3 : tie.Need-same-length-3
-same-length-3 c = search needs
-
-same-length-4 : tie.Need-same-length-4
-same-length-4 c = search needs
-
 returns-2 : tie.Need-returns-2
 returns-2 c = let is = c .enum-told .given .1 in let never = written (c .before .before .before .before) in let z : _≡_ {A = ℕ} 0 1 = cc in absurd (omega arith)
-
-same-length-5 : tie.Need-same-length-5
-same-length-5 c = search needs
-
-same-length-6 : tie.Need-same-length-6
-same-length-6 c = search needs
 
 returns-3 : tie.Need-returns-3
 returns-3 c = let is = c .enum-told2 .given .1 in let never = written (c .before .before .before .before) in let z : _≡_ {A = ℕ} 0 1 = cc in absurd (omega arith)
@@ -95,18 +59,18 @@ pub recovered-text-spec : {M : Type 1} → statement M
 recovered-text-spec =
     tie.close
     (tie.spec
-    recover-requires
-    read-requires
-    write-text-requires
-    enum-known-count
-    enum-told
-    enum-told-2
-    same-length
-    same-length-2
+    (λ c κs. search needs)
+    (λ c κs. search needs)
+    (λ c κs. search needs)
+    (λ c. search needs)
+    (λ c. search needs)
+    (λ c. search needs)
+    (λ c. search needs)
+    (λ c. search needs)
     returns
-    same-length-3
-    same-length-4
+    (λ c. search needs)
+    (λ c. search needs)
     returns-2
-    same-length-5
-    same-length-6
+    (λ c. search needs)
+    (λ c. search needs)
     returns-3)

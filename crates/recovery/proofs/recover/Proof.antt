@@ -23,12 +23,6 @@ use borrow.Author.Needs.{needs}
 use Rattle.recovery.proofs.recover.Statement.{statement}
 use Rattle.recovery.proofs.recover.Tie as tie
 
-read-requires : tie.Need-read-requires
-read-requires c κs = search needs
-
-enum-told : tie.Need-enum-told
-enum-told c = search needs
-
 -- the job and the area at the call
 abbrev job : tie.After-read → List ℕ
 job c = c .before .before .before .args .job .now
@@ -64,9 +58,6 @@ solve-requires c κs =
     let W = well-formed-facts (job (here d)) (length (area (here d))) (well-formed d) in
     subst (λ (r : Reading). Sized (r .bounds) × Table (r .bounds) (r .points)) (sym (accepted d)) (sized (job (here d)) W, table (job (here d)) W)
 
-enum-told-2 : tie.Need-enum-told-2
-enum-told-2 c = search needs
-
 returns-2 : tie.Need-returns-2
 returns-2 c =
     let v = c .before in
@@ -82,9 +73,6 @@ write-requires c κs =
     subst (λ (r : Reading). Storable (r .bounds) × (answerLengthOf (r .bounds) ≤ length (area (here d)))) (sym (accepted d))
     (storable (sized (job (here d)) W), W .enough-area)
 
-same-length : tie.Need-same-length
-same-length c = search needs
-
 returns-3 : tie.Need-returns-3
 returns-3 c =
     let w = c .before .before in
@@ -99,12 +87,12 @@ pub recover-spec : {M : Type 1} → statement M
 recover-spec =
     tie.close
     (tie.spec
-    read-requires
-    enum-told
+    (λ c κs. search needs)
+    (λ c. search needs)
     returns
     solve-requires
-    enum-told-2
+    (λ c. search needs)
     returns-2
     write-requires
-    same-length
+    (λ c. search needs)
     returns-3)

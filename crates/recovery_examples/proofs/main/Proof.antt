@@ -9,37 +9,16 @@ Inv-loop counter₀ counter = counter ≤ 1000
 abbrev μ-loop : tie.MeasureT-loop
 μ-loop counter₀ counter = 1000 - counter
 
-loop-holds : tie.Need-loop-holds Inv-loop μ-loop
-loop-holds c = search needs
-
-show-next-requires : tie.Need-show-next-requires Inv-loop μ-loop
-show-next-requires c κs = search needs
-
-returns : tie.Need-returns Inv-loop μ-loop
-returns c = search needs
-
-add-counter : tie.Need-add-counter Inv-loop μ-loop
-add-counter c = search needs
-
-loop-less : tie.Need-loop-less Inv-loop μ-loop
-loop-less c = search needs
-
-loop-again : tie.Need-loop-again Inv-loop μ-loop
-loop-again c = search needs
-
-returns-2 : tie.Need-returns-2 Inv-loop μ-loop
-returns-2 c = search needs
-
 pub main-spec : {M : Type 1} → statement M
 main-spec =
     tie.close
     (tie.spec
     Inv-loop
     μ-loop
-    loop-holds
-    show-next-requires
-    returns
-    add-counter
-    loop-less
-    loop-again
-    returns-2)
+    (λ c. search needs)
+    (λ c κs. search needs)
+    (λ c. search needs)
+    (λ c. search needs)
+    (λ c. search needs)
+    (λ c. search needs)
+    (λ c. search needs))

@@ -8,21 +8,6 @@ use Rattle.reduction.proofs.Halves.{high-below, high-of-residues}
 use Rattle.reduction.proofs.product.Statement.{statement}
 use Rattle.reduction.proofs.product.Tie as tie
 
-mul-high : tie.Need-mul-high
-mul-high c = omega (arith, product-of-halves {x = c .args .form} {y = c .args .a} (omega arith) (omega arith))
-
-mul-m : tie.Need-mul-m
-mul-m c = omega (arith, product-of-halves {x = c .args .low} {y = c .args .a} (omega arith) (omega arith))
-
-mul-taken : tie.Need-mul-taken
-mul-taken c = omega (arith, product-of-halves {x = c .args .low * c .args .a % 65536} {y = c .args .p} (omega arith) (omega arith))
-
-cast-difference : tie.Need-cast-difference
-cast-difference c = omega (arith, high-of-residues (c .pre .0) (c .pre .1) (omega arith))
-
-cast-difference-2 : tie.Need-cast-difference-2
-cast-difference-2 c = omega (arith, high-below (c .args .low * c .args .a) (c .args .p) (omega arith))
-
 difference-requires : tie.Need-difference-requires
 difference-requires c κs = (high-of-residues (c .pre .0) (c .pre .1) (omega arith), omega (arith, high-below (c .args .low * c .args .a) (c .args .p) (omega arith)))
 
@@ -34,10 +19,10 @@ pub product-spec : {M : Type 1} → statement M
 product-spec =
     tie.close
     (tie.spec
-    mul-high
-    mul-m
-    mul-taken
-    cast-difference
-    cast-difference-2
+    (λ c. omega (arith, product-of-halves {x = c .args .form} {y = c .args .a} (omega arith) (omega arith)))
+    (λ c. omega (arith, product-of-halves {x = c .args .low} {y = c .args .a} (omega arith) (omega arith)))
+    (λ c. omega (arith, product-of-halves {x = c .args .low * c .args .a % 65536} {y = c .args .p} (omega arith) (omega arith)))
+    (λ c. omega (arith, high-of-residues (c .pre .0) (c .pre .1) (omega arith)))
+    (λ c. omega (arith, high-below (c .args .low * c .args .a) (c .args .p) (omega arith)))
     difference-requires
     returns)

@@ -24,37 +24,16 @@ loop-holds : tie.Need-loop-holds Inv-loop μ-loop
 unfolding firstBelow
 loop-holds c = (search needs, refl)
 
-cast-row : tie.Need-cast-row Inv-loop μ-loop
-cast-row c = search needs
-
-mul-if1 : tie.Need-mul-if1 Inv-loop μ-loop
-mul-if1 c = search needs
-
-array-read-if1 : tie.Need-array-read-if1 Inv-loop μ-loop
-array-read-if1 c = search needs
-
 returns : tie.Need-returns Inv-loop μ-loop
 returns c =
     let a = c .before .before in
     sym (first-at _ (a .loop .r) _ (a .loop .inv .1) (ap₂ _||_ (le-leb _ _ (c .if1 .taken)) refl) (omega arith))
-
-mul-value-out-of-range : tie.Need-mul-value-out-of-range Inv-loop μ-loop
-mul-value-out-of-range c = search needs
-
-value-out-of-range-requires : tie.Need-value-out-of-range-requires Inv-loop μ-loop
-value-out-of-range-requires c κs = search needs
 
 returns-2 : tie.Need-returns-2 Inv-loop μ-loop
 returns-2 c =
     let a = c .before .before .before .before in
     let here = ap₂ _||_ (lt-leb _ _ (c .before .before .if1 .left)) (sym (c .before .value-out-of-range .ensures) ∙ c .if2 .taken) in
     sym (first-at _ (a .loop .r) _ (a .loop .inv .1) here (omega arith))
-
-add-r : tie.Need-add-r Inv-loop μ-loop
-add-r c = search needs
-
-loop-less : tie.Need-loop-less Inv-loop μ-loop
-loop-less c = search needs
 
 loop-again : tie.Need-loop-again Inv-loop μ-loop
 loop-again c =
@@ -72,14 +51,14 @@ first-out-of-range-spec =
     Inv-loop
     μ-loop
     loop-holds
-    cast-row
-    mul-if1
-    array-read-if1
+    (λ c. search needs)
+    (λ c. search needs)
+    (λ c. search needs)
     returns
-    mul-value-out-of-range
-    value-out-of-range-requires
+    (λ c. search needs)
+    (λ c κs. search needs)
     returns-2
-    add-r
-    loop-less
+    (λ c. search needs)
+    (λ c. search needs)
     loop-again
     returns-3)

@@ -21,22 +21,10 @@ loop-holds : tie.Need-loop-holds Inv-loop μ-loop
 unfolding firstBelow
 loop-holds c = (search needs, refl)
 
-cast-later : tie.Need-cast-later Inv-loop μ-loop
-cast-later c = search needs
-
-stands-earlier-requires : tie.Need-stands-earlier-requires Inv-loop μ-loop
-stands-earlier-requires c κs = search needs
-
 returns : tie.Need-returns Inv-loop μ-loop
 returns c =
     let a = c .before .before .before in
     sym (first-at _ (a .loop .r) _ (a .loop .inv .1) (sym (c .before .stands-earlier .ensures) ∙ c .if1 .taken) (omega arith))
-
-add-r : tie.Need-add-r Inv-loop μ-loop
-add-r c = search needs
-
-loop-less : tie.Need-loop-less Inv-loop μ-loop
-loop-less c = search needs
 
 loop-again : tie.Need-loop-again Inv-loop μ-loop
 loop-again c =
@@ -53,10 +41,10 @@ first-repeated-spec =
     Inv-loop
     μ-loop
     loop-holds
-    cast-later
-    stands-earlier-requires
+    (λ c. search needs)
+    (λ c κs. search needs)
     returns
-    add-r
-    loop-less
+    (λ c. search needs)
+    (λ c. search needs)
     loop-again
     returns-2)

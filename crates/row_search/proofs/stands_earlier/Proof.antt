@@ -17,32 +17,14 @@ Inv-loop r points point q₀ q = (q ≤ r) × (firstBelow q (λ k. eqb (getD poi
 abbrev μ-loop : tie.MeasureT-loop
 μ-loop r points point q₀ q = r - q
 
-mul-point : tie.Need-mul-point Inv-loop μ-loop
-mul-point c = search needs
-
-array-read-point : tie.Need-array-read-point Inv-loop μ-loop
-array-read-point c = search needs
-
 loop-holds : tie.Need-loop-holds Inv-loop μ-loop
 unfolding firstBelow
 loop-holds c = (search needs, refl)
-
-mul-if1 : tie.Need-mul-if1 Inv-loop μ-loop
-mul-if1 c = search needs
-
-array-read-if1 : tie.Need-array-read-if1 Inv-loop μ-loop
-array-read-if1 c = search needs
 
 returns : tie.Need-returns Inv-loop μ-loop
 returns c =
     let a = c .before .before in
     any-at _ (a .loop .q) _ (a .loop .inv .1) (eq-eqb _ _ (c .if1 .taken)) (omega arith)
-
-add-q : tie.Need-add-q Inv-loop μ-loop
-add-q c = search needs
-
-loop-less : tie.Need-loop-less Inv-loop μ-loop
-loop-less c = search needs
 
 loop-again : tie.Need-loop-again Inv-loop μ-loop
 loop-again c =
@@ -58,13 +40,13 @@ stands-earlier-spec =
     (tie.spec
     Inv-loop
     μ-loop
-    mul-point
-    array-read-point
+    (λ c. search needs)
+    (λ c. search needs)
     loop-holds
-    mul-if1
-    array-read-if1
+    (λ c. search needs)
+    (λ c. search needs)
     returns
-    add-q
-    loop-less
+    (λ c. search needs)
+    (λ c. search needs)
     loop-again
     returns-2)

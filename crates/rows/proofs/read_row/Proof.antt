@@ -17,33 +17,9 @@ Inv-loop bytes outputs point values₀ i₀ values i =
 abbrev μ-loop : tie.MeasureT-loop
 μ-loop bytes outputs point values₀ i₀ values i = outputs - i
 
-number-from-requires : tie.Need-number-from-requires Inv-loop μ-loop
-number-from-requires c κs = search needs
-
 loop-holds : tie.Need-loop-holds Inv-loop μ-loop
 unfolding tabulate
 loop-holds c = (search needs, refl)
-
-add-number-from : tie.Need-add-number-from Inv-loop μ-loop
-add-number-from c = search needs
-
-mul-number-from : tie.Need-mul-number-from Inv-loop μ-loop
-mul-number-from c = search needs
-
-number-from-requires-2 : tie.Need-number-from-requires-2 Inv-loop μ-loop
-number-from-requires-2 c κs = search needs
-
-mul-values : tie.Need-mul-values Inv-loop μ-loop
-mul-values c = search needs
-
-array-write-values : tie.Need-array-write-values Inv-loop μ-loop
-array-write-values c = search needs
-
-add-i : tie.Need-add-i Inv-loop μ-loop
-add-i c = search needs
-
-loop-less : tie.Need-loop-less Inv-loop μ-loop
-loop-less c = search needs
 
 loop-again : tie.Need-loop-again Inv-loop μ-loop
 loop-again c =
@@ -64,14 +40,14 @@ read-row-spec =
     (tie.spec
     Inv-loop
     μ-loop
-    number-from-requires
+    (λ c κs. search needs)
     loop-holds
-    add-number-from
-    mul-number-from
-    number-from-requires-2
-    mul-values
-    array-write-values
-    add-i
-    loop-less
+    (λ c. search needs)
+    (λ c. search needs)
+    (λ c κs. search needs)
+    (λ c. search needs)
+    (λ c. search needs)
+    (λ c. search needs)
+    (λ c. search needs)
     loop-again
     returns)

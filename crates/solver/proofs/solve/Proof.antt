@@ -8,12 +8,6 @@ use borrow.Author.Needs.{needs}
 use Rattle.solver.proofs.solve.Statement.{statement}
 use Rattle.solver.proofs.solve.Tie as tie
 
-after-outputs-requires : tie.Need-after-outputs-requires
-after-outputs-requires c κs = search needs
-
-unsolved-requires : tie.Need-unsolved-requires
-unsolved-requires c κs = search needs
-
 returns : tie.Need-returns
 returns c =
     let a = c .before .before .before in
@@ -25,15 +19,6 @@ wrong-rows-requires : tie.Need-wrong-rows-requires
 wrong-rows-requires c κs =
     let a = c .before .before .before .before in
     (omega (arith, a .before .pre .0 .rows), fits-judge (a .before .pre .0) (a .after-outputs .ensures .1))
-
-wrong-count-requires : tie.Need-wrong-count-requires
-wrong-count-requires c κs = search needs
-
-cast-if2 : tie.Need-cast-if2
-cast-if2 c = search needs
-
-unsolved-requires-2 : tie.Need-unsolved-requires-2
-unsolved-requires-2 c κs = search needs
 
 -- the word that was computed is the candidate's
 word-is : (r : tie.After-wrong-rows) → let a = r .before .before .before .before .before in let g = a .before .args in
@@ -60,9 +45,6 @@ returns-2 c =
 answer-length-requires : tie.Need-answer-length-requires
 answer-length-requires c κs = storable (c .before .before .before .before .before .before .before .before .before .pre .0)
 
-cast-bytes : tie.Need-cast-bytes
-cast-bytes c = omega (arith, c .answer-length .ensures, short-answer (c .before .before .before .before .before .before .before .before .before .before .pre .0))
-
 returns-3 : tie.Need-returns-3
 returns-3 c =
     let w = c .before .before .before in
@@ -79,14 +61,14 @@ pub solve-spec : {M : Type 1} → statement M
 solve-spec =
     tie.close
     (tie.spec
-    after-outputs-requires
-    unsolved-requires
+    (λ c κs. search needs)
+    (λ c κs. search needs)
     returns
     wrong-rows-requires
-    wrong-count-requires
-    cast-if2
-    unsolved-requires-2
+    (λ c κs. search needs)
+    (λ c. search needs)
+    (λ c κs. search needs)
     returns-2
     answer-length-requires
-    cast-bytes
+    (λ c. omega (arith, c .answer-length .ensures, short-answer (c .before .before .before .before .before .before .before .before .before .before .pre .0)))
     returns-3)

@@ -16,42 +16,6 @@ use native.Mathlib.Omega.{arith}
 use Rattle.text.proofs.recovered.Statement.{statement}
 use Rattle.text.proofs.recovered.Tie as tie
 
-empty-requires : tie.Need-empty-requires
-empty-requires c κs = search needs
-
-slice-aggregate-put-label : tie.Need-slice-aggregate-put-label
-slice-aggregate-put-label c = search needs
-
-put-label-requires : tie.Need-put-label-requires
-put-label-requires c κs = search needs
-
-put-decimal-requires : tie.Need-put-decimal-requires
-put-decimal-requires c κs = search needs
-
-put-byte-requires : tie.Need-put-byte-requires
-put-byte-requires c κs = search needs
-
-slice-aggregate-put-label-2 : tie.Need-slice-aggregate-put-label-2
-slice-aggregate-put-label-2 c = search needs
-
-put-label-requires-2 : tie.Need-put-label-requires-2
-put-label-requires-2 c κs = search needs
-
-word-from-requires : tie.Need-word-from-requires
-word-from-requires c κs = search needs
-
-put-rows-requires : tie.Need-put-rows-requires
-put-rows-requires c κs = search needs
-
-put-byte-requires-2 : tie.Need-put-byte-requires-2
-put-byte-requires-2 c κs = search needs
-
-slice-aggregate-put-label-3 : tie.Need-slice-aggregate-put-label-3
-slice-aggregate-put-label-3 c = search needs
-
-put-label-requires-3 : tie.Need-put-label-requires-3
-put-label-requires-3 c κs = search needs
-
 put-polynomial-requires : tie.Need-put-polynomial-requires
 put-polynomial-requires c κs =
     let s = c .before .before .before .before .before .before .before .before .before .before .before .before .before in
@@ -103,18 +67,18 @@ pub recovered-spec : {M : Type 1} → statement M
 recovered-spec =
     tie.close
     (tie.spec
-    empty-requires
-    slice-aggregate-put-label
-    put-label-requires
-    put-decimal-requires
-    put-byte-requires
-    slice-aggregate-put-label-2
-    put-label-requires-2
-    word-from-requires
-    put-rows-requires
-    put-byte-requires-2
-    slice-aggregate-put-label-3
-    put-label-requires-3
+    (λ c κs. search needs)
+    (λ c. search needs)
+    (λ c κs. search needs)
+    (λ c κs. search needs)
+    (λ c κs. search needs)
+    (λ c. search needs)
+    (λ c κs. search needs)
+    (λ c κs. search needs)
+    (λ c κs. search needs)
+    (λ c κs. search needs)
+    (λ c. search needs)
+    (λ c κs. search needs)
     put-polynomial-requires
     put-outputs-requires
     returns)

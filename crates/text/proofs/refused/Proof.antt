@@ -12,24 +12,6 @@ use borrow.Author.Needs.{needs}
 use Rattle.text.proofs.refused.Statement.{statement}
 use Rattle.text.proofs.refused.Tie as tie
 
-empty-requires : tie.Need-empty-requires
-empty-requires c κs = search needs
-
-slice-aggregate-put-label : tie.Need-slice-aggregate-put-label
-slice-aggregate-put-label c = search needs
-
-put-label-requires : tie.Need-put-label-requires
-put-label-requires c κs = search needs
-
-put-decimal-requires : tie.Need-put-decimal-requires
-put-decimal-requires c κs = search needs
-
-put-item-requires : tie.Need-put-item-requires
-put-item-requires c κs = search needs
-
-put-byte-requires : tie.Need-put-byte-requires
-put-byte-requires c κs = search needs
-
 whole : (c : tie.After-put-byte) → length (c .put-byte .result .bytes) ≡ 1280
 whole c = let ok = c .put-byte .ok in search needs
 
@@ -53,10 +35,10 @@ pub refused-spec : {M : Type 1} → statement M
 refused-spec =
     tie.close
     (tie.spec
-    empty-requires
-    slice-aggregate-put-label
-    put-label-requires
-    put-decimal-requires
-    put-item-requires
-    put-byte-requires
+    (λ c κs. search needs)
+    (λ c. search needs)
+    (λ c κs. search needs)
+    (λ c κs. search needs)
+    (λ c κs. search needs)
+    (λ c κs. search needs)
     returns)

@@ -10,9 +10,6 @@ use native.Mathlib.Omega.{arith}
 use Rattle.text.proofs.write_text.Statement.{statement}
 use Rattle.text.proofs.write_text.Tie as tie
 
-storable-requires : tie.Need-storable-requires
-storable-requires c κs = search needs
-
 returns : tie.Need-returns
 returns c =
     let g = c .before .before .before .before .args in
@@ -33,12 +30,6 @@ returns-2 c =
     let told = told-short (g .bounds) (g .outcome) (g .area .now) (g .buffer .now) (good passed) (omega arith) in
     (told .0, told .1, λ e. omega arith)
 
-copy-out-requires : tie.Need-copy-out-requires
-copy-out-requires c κs = search needs
-
-same-length : tie.Need-same-length
-same-length c = search needs
-
 returns-3 : tie.Need-returns-3
 returns-3 c =
     let made = c .before .before .before .before .before in
@@ -52,10 +43,10 @@ pub write-text-spec : {M : Type 1} → statement M
 write-text-spec =
     tie.close
     (tie.spec
-    storable-requires
+    (λ c κs. search needs)
     returns
     text-of-requires
     returns-2
-    copy-out-requires
-    same-length
+    (λ c κs. search needs)
+    (λ c. search needs)
     returns-3)

@@ -13,27 +13,6 @@ power-fits n l =
     let h : 2 ^ n ≤ 2 ^ 5 = pow-mono {j = 5} l in
     mod-eq-of-lt (omega arith) ∙ one-mul (2 ^ n)
 
-add-end : tie.Need-add-end
-add-end c = search needs
-
-header-number-requires : tie.Need-header-number-requires
-header-number-requires c κs = search needs
-
-sub-value : tie.Need-sub-value
-sub-value c = search needs
-
-cast-value : tie.Need-cast-value
-cast-value c = search needs
-
-shr-value : tie.Need-shr-value
-shr-value c = search needs
-
-cast-value-2 : tie.Need-cast-value-2
-cast-value-2 c = search needs
-
-shl-value : tie.Need-shl-value
-shl-value c = search needs
-
 rem-value : tie.Need-rem-value
 rem-value c =
     let n = c .before .before .before .args .bits in
@@ -49,12 +28,12 @@ pub take-spec : {M : Type 1} → statement M
 take-spec =
     tie.close
     (tie.spec
-    add-end
-    header-number-requires
-    sub-value
-    cast-value
-    shr-value
-    cast-value-2
-    shl-value
+    (λ c. search needs)
+    (λ c κs. search needs)
+    (λ c. search needs)
+    (λ c. search needs)
+    (λ c. search needs)
+    (λ c. search needs)
+    (λ c. search needs)
     rem-value
     returns)

@@ -39,19 +39,10 @@ total c = c .job-length .ensures ∙ ap jobLengthOf (c .before .before .before .
 not-3 : (c : tie.Else3) → byteCountDiffers (bytes (c .before .before .before .before .before .before .before .before)) ≡ false
 not-3 c = ap not (eq-eqb _ _ (c .if3 .left ∙ total (c .before)))
 
-refused-requires : tie.Need-refused-requires
-refused-requires c κs = search needs
-
 returns : tie.Need-returns
 returns c =
     let start = c .before .before .before in
     as-defined (bytes start) (start .args .area) (c .refused .ensures) (at-1 _ _ (lt-ltb _ _ (c .before .if1 .taken)))
-
-read-header-requires : tie.Need-read-header-requires
-read-header-requires c κs = search needs
-
-refused-requires-2 : tie.Need-refused-requires-2
-refused-requires-2 c κs = search needs
 
 returns-2 : tie.Need-returns-2
 returns-2 c =
@@ -63,9 +54,6 @@ returns-2 c =
 job-length-requires : tie.Need-job-length-requires
 job-length-requires c κs = narrow-bounds (c .before .before .before)
 
-refused-requires-3 : tie.Need-refused-requires-3
-refused-requires-3 c κs = search needs
-
 returns-3 : tie.Need-returns-3
 returns-3 c =
     let length = c .before .before in
@@ -76,9 +64,6 @@ returns-3 c =
 
 rows-needed-requires : tie.Need-rows-needed-requires
 rows-needed-requires c κs = narrow-bounds (c .before .before .before .before .before)
-
-refused-requires-4 : tie.Need-refused-requires-4
-refused-requires-4 c κs = search needs
 
 returns-4 : tie.Need-returns-4
 returns-4 c =
@@ -114,16 +99,16 @@ pub read-spec : {M : Type 1} → statement M
 read-spec =
     tie.close
     (tie.spec
-    refused-requires
+    (λ c κs. search needs)
     returns
-    read-header-requires
-    refused-requires-2
+    (λ c κs. search needs)
+    (λ c κs. search needs)
     returns-2
     job-length-requires
-    refused-requires-3
+    (λ c κs. search needs)
     returns-3
     rows-needed-requires
-    refused-requires-4
+    (λ c κs. search needs)
     returns-4
     read-body-requires
     returns-5)

@@ -65,39 +65,15 @@ not-6 c = sym (test-6 (c .before .before)) ∙ c .enum-told2 .given .1
 needed : (c : tie.After-answer-length) → c .answer-length .result ≡ answerLengthOf (boundsOf (bytes (start-7 c)))
 needed c = c .answer-length .ensures ∙ ap answerLengthOf (start-7 c .pre .0)
 
-modulus-requires : tie.Need-modulus-requires
-modulus-requires c κs = search needs
-
 read-rows-requires : tie.Need-read-rows-requires
 read-rows-requires c κs =
     let pre = c .before .before .pre in
     ((pre .1 .rows-most, pre .1 .outputs-most, pre .2), (ap (λ (b : Bounds). b .rows) (pre .0), ap (λ (b : Bounds). b .outputs) (pre .0)))
 
-first-out-of-range-requires : tie.Need-first-out-of-range-requires
-first-out-of-range-requires c κs = search needs
-
-enum-known-row : tie.Need-enum-known-row
-enum-known-row c = search needs
-
-refused-requires : tie.Need-refused-requires
-refused-requires c κs = search needs
-
 returns : tie.Need-returns
 returns c =
     let a = c .before .before .before .before in
     as-defined (start-5 a) (c .refused .ensures) (at-5 _ _ (sym (test-5 a) ∙ c .before .before .row .given .1))
-
-enum-told : tie.Need-enum-told
-enum-told c = search needs
-
-first-repeated-requires : tie.Need-first-repeated-requires
-first-repeated-requires c κs = search needs
-
-enum-known-row-2 : tie.Need-enum-known-row-2
-enum-known-row-2 c = search needs
-
-refused-requires-2 : tie.Need-refused-requires-2
-refused-requires-2 c κs = search needs
 
 returns-2 : tie.Need-returns-2
 returns-2 c =
@@ -105,16 +81,10 @@ returns-2 c =
     as-defined (start-6 a) (c .refused2 .ensures)
     (at-6 _ _ (not-5 (a .before)) (sym (test-6 a) ∙ c .before .before .row2 .given .1))
 
-enum-told-2 : tie.Need-enum-told-2
-enum-told-2 c = search needs
-
 answer-length-requires : tie.Need-answer-length-requires
 answer-length-requires c κs =
     let fields = start-6 (c .before .before) .pre .1 in
     record { few = fields .outputs-most; denominator-low = fields .denominator-most; numerators-low = λ i. fields .numerator-most }
-
-refused-requires-3 : tie.Need-refused-requires-3
-refused-requires-3 c κs = search needs
 
 returns-3 : tie.Need-returns-3
 returns-3 c =
@@ -138,19 +108,19 @@ pub read-body-spec : {M : Type 1} → statement M
 read-body-spec =
     tie.close
     (tie.spec
-    modulus-requires
+    (λ c κs. search needs)
     read-rows-requires
-    first-out-of-range-requires
-    enum-known-row
-    refused-requires
+    (λ c κs. search needs)
+    (λ c. search needs)
+    (λ c κs. search needs)
     returns
-    enum-told
-    first-repeated-requires
-    enum-known-row-2
-    refused-requires-2
+    (λ c. search needs)
+    (λ c κs. search needs)
+    (λ c. search needs)
+    (λ c κs. search needs)
     returns-2
-    enum-told-2
+    (λ c. search needs)
     answer-length-requires
-    refused-requires-3
+    (λ c κs. search needs)
     returns-3
     returns-4)

@@ -19,18 +19,6 @@ loop-holds c =
     let g = c .args in
     (omega arith, refl, paste-zero (g .buffer .now) 0 (g .t1 .bytes))
 
-element-copy-out-buffer : tie.Need-element-copy-out-buffer Inv-loop μ-loop
-element-copy-out-buffer c = omega arith
-
-slice-write-buffer : tie.Need-slice-write-buffer Inv-loop μ-loop
-slice-write-buffer c = omega arith
-
-add-k : tie.Need-add-k Inv-loop μ-loop
-add-k c = omega arith
-
-loop-less : tie.Need-loop-less Inv-loop μ-loop
-loop-less c = omega arith
-
 loop-again : tie.Need-loop-again Inv-loop μ-loop
 loop-again c =
     let s = c .before .before in
@@ -59,10 +47,10 @@ copy-out-spec =
     Inv-loop
     μ-loop
     loop-holds
-    element-copy-out-buffer
-    slice-write-buffer
-    add-k
-    loop-less
+    (λ c. omega arith)
+    (λ c. omega arith)
+    (λ c. omega arith)
+    (λ c. omega arith)
     loop-again
     same-length
     returns)

@@ -24,24 +24,6 @@ loop-holds c =
     let whole : length (g .draft .bytes) ≡ 1280 = search needs in
     (omega arith, put-nothing (g .draft .bytes) whole (g .draft .count))
 
-mul-number-at : tie.Need-mul-number-at Inv-loop μ-loop
-mul-number-at c = omega arith
-
-add-number-at : tie.Need-add-number-at Inv-loop μ-loop
-add-number-at c = omega arith
-
-number-at-requires : tie.Need-number-at-requires Inv-loop μ-loop
-number-at-requires c κs = search needs
-
-put-item-requires : tie.Need-put-item-requires Inv-loop μ-loop
-put-item-requires c κs = search needs
-
-add-k : tie.Need-add-k Inv-loop μ-loop
-add-k c = omega arith
-
-loop-less : tie.Need-loop-less Inv-loop μ-loop
-loop-less c = omega arith
-
 loop-again : tie.Need-loop-again Inv-loop μ-loop
 loop-again c =
     let s = c .before .before .before in
@@ -65,11 +47,11 @@ put-coefficients-spec =
     Inv-loop
     μ-loop
     loop-holds
-    mul-number-at
-    add-number-at
-    number-at-requires
-    put-item-requires
-    add-k
-    loop-less
+    (λ c. omega arith)
+    (λ c. omega arith)
+    (λ c κs. search needs)
+    (λ c κs. search needs)
+    (λ c. omega arith)
+    (λ c. omega arith)
     loop-again
     returns)

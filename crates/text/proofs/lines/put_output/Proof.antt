@@ -9,24 +9,6 @@ use borrow.Author.Needs.{needs}
 use Rattle.text.proofs.lines.put_output.Statement.{statement}
 use Rattle.text.proofs.lines.put_output.Tie as tie
 
-slice-aggregate-put-label : tie.Need-slice-aggregate-put-label
-slice-aggregate-put-label c = search needs
-
-put-label-requires : tie.Need-put-label-requires
-put-label-requires c κs = search needs
-
-add-put-decimal : tie.Need-add-put-decimal
-add-put-decimal c = search needs
-
-cast-put-decimal : tie.Need-cast-put-decimal
-cast-put-decimal c = search needs
-
-put-decimal-requires : tie.Need-put-decimal-requires
-put-decimal-requires c κs = search needs
-
-put-polynomial-requires : tie.Need-put-polynomial-requires
-put-polynomial-requires c κs = search needs
-
 returns : tie.Need-returns
 returns c =
     let numbered = c .before in
@@ -40,10 +22,10 @@ pub put-output-spec : {M : Type 1} → statement M
 put-output-spec =
     tie.close
     (tie.spec
-    slice-aggregate-put-label
-    put-label-requires
-    add-put-decimal
-    cast-put-decimal
-    put-decimal-requires
-    put-polynomial-requires
+    (λ c. search needs)
+    (λ c κs. search needs)
+    (λ c. search needs)
+    (λ c. search needs)
+    (λ c κs. search needs)
+    (λ c κs. search needs)
     returns)

@@ -19,24 +19,12 @@ Inv-loop area b n r₀ start₀ i₀ r start i =
 abbrev μ-loop : tie.MeasureT-loop
 μ-loop area b n r₀ start₀ i₀ r start i = n - i
 
-add-start : tie.Need-add-start Inv-loop μ-loop
-add-start c = omega (arith, c .before .before .pre .denominator-low)
-
-mul-start : tie.Need-mul-start Inv-loop μ-loop
-mul-start c = omega (arith, c .before .before .pre .denominator-low)
-
-add-start-2 : tie.Need-add-start-2 Inv-loop μ-loop
-add-start-2 c = omega (arith, c .before .before .pre .denominator-low)
-
 loop-holds : tie.Need-loop-holds Inv-loop μ-loop
 unfolding numeratorStart outputLines
 loop-holds c =
     let g = c .before .before in
     let whole : length (g .args .draft .bytes) ≡ 1280 = search needs in
     (omega arith, refl, omega (arith, g .pre .denominator-low), put-nothing (g .args .draft .bytes) whole (g .args .draft .count))
-
-numerator-bound-requires : tie.Need-numerator-bound-requires Inv-loop μ-loop
-numerator-bound-requires c κs = search needs
 
 put-output-requires : tie.Need-put-output-requires Inv-loop μ-loop
 put-output-requires c κs =
@@ -65,12 +53,6 @@ add-start-4 c =
     let low = g .pre .numerators-low (s .loop .i) in
     let few = g .pre .few in
     omega arith
-
-add-i : tie.Need-add-i Inv-loop μ-loop
-add-i c = omega arith
-
-loop-less : tie.Need-loop-less Inv-loop μ-loop
-loop-less c = omega arith
 
 loop-again : tie.Need-loop-again Inv-loop μ-loop
 loop-again c =
@@ -103,16 +85,16 @@ put-outputs-spec =
     (tie.spec
     Inv-loop
     μ-loop
-    add-start
-    mul-start
-    add-start-2
+    (λ c. omega (arith, c .before .before .pre .denominator-low))
+    (λ c. omega (arith, c .before .before .pre .denominator-low))
+    (λ c. omega (arith, c .before .before .pre .denominator-low))
     loop-holds
-    numerator-bound-requires
+    (λ c κs. search needs)
     put-output-requires
     add-start-3
     mul-start-2
     add-start-4
-    add-i
-    loop-less
+    (λ c. omega arith)
+    (λ c. omega arith)
     loop-again
     returns)

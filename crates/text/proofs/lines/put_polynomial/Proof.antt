@@ -7,18 +7,6 @@ use borrow.Author.Needs.{needs}
 use Rattle.text.proofs.lines.put_polynomial.Statement.{statement}
 use Rattle.text.proofs.lines.put_polynomial.Tie as tie
 
-degree-requires : tie.Need-degree-requires
-degree-requires c κs = search needs
-
-add-put-coefficients : tie.Need-add-put-coefficients
-add-put-coefficients c = search needs
-
-put-coefficients-requires : tie.Need-put-coefficients-requires
-put-coefficients-requires c κs = search needs
-
-put-byte-requires : tie.Need-put-byte-requires
-put-byte-requires c κs = search needs
-
 returns : tie.Need-returns
 returns c =
     let listed = c .before in
@@ -32,8 +20,8 @@ pub put-polynomial-spec : {M : Type 1} → statement M
 put-polynomial-spec =
     tie.close
     (tie.spec
-    degree-requires
-    add-put-coefficients
-    put-coefficients-requires
-    put-byte-requires
+    (λ c κs. search needs)
+    (λ c. search needs)
+    (λ c κs. search needs)
+    (λ c κs. search needs)
     returns)

@@ -27,12 +27,6 @@ loop-holds c =
     let whole : length (g .draft .bytes) ≡ 1280 = search needs in
     (c .fits .word .fits, put-nothing (g .draft .bytes) whole (g .draft .count), refl)
 
-first-wrong-requires : tie.Need-first-wrong-requires Inv-loop μ-loop
-first-wrong-requires c κs = search needs
-
-put-item-requires : tie.Need-put-item-requires Inv-loop μ-loop
-put-item-requires c κs = search needs
-
 without-row-requires : tie.Need-without-row-requires Inv-loop μ-loop
 without-row-requires c κs =
     let f = c .before in
@@ -78,8 +72,8 @@ put-rows-spec =
     Inv-loop
     μ-loop
     loop-holds
-    first-wrong-requires
-    put-item-requires
+    (λ c κs. search needs)
+    (λ c κs. search needs)
     without-row-requires
     loop-less
     loop-again
