@@ -12,7 +12,7 @@ use Rattle.answer.proofs.Reading.{SixteenBits, read-word, read-denomina
 -- the same word, the same g and the same f1 to fn, as far as the bounds go
 pub record SameContents (b : Bounds) (word word′ : ℕ) (g g′ : List ℕ) (f f′ : ℕ → List ℕ) : Type 0 where
   pub same-word : word ≡ word′
-  pub same-denominator : (k : ℕ) → k ≤ b .denominator → getD g k 0 ≡ getD g′ k 0
+  pub same-denominator : (k : ℕ) → k ≤ b .dg → getD g k 0 ≡ getD g′ k 0
   pub same-numerators : (i k : ℕ) → i < b .outputs → k ≤ numeratorBoundOf b i → getD (f i) k 0 ≡ getD (f′ i) k 0
 
 -- an answer's bytes determine its contents

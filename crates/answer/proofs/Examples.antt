@@ -10,11 +10,11 @@ use Rattle.answer.specs.Bytes.{coefficientBytes, outputBytes, answerByte
 
 -- H1: one output, three rows, df 0, dg 0, E 1
 h1 : Bounds
-h1 = record { prime = P7; outputs = 1; rows = 3; numerator = 0; denominator = 0; errors = 1 }
+h1 = record { prime = P7; outputs = 1; rows = 3; df = 0; dg = 0; errors = 1 }
 
 -- H8: two outputs, three rows, df 1, dg 1, E 0
 h8 : Bounds
-h8 = record { prime = P7; outputs = 2; rows = 3; numerator = 1; denominator = 1; errors = 0 }
+h8 = record { prime = P7; outputs = 2; rows = 3; df = 1; dg = 1; errors = 0 }
 
 -- H1: row 2 is wrong; 20000000 0001 0005, and what stands behind keeps its contents
 h1-bytes : overwritten (answerBytes h1 536870912 (1 ∷ []) (λ i. 5 ∷ [])) (9 ∷ 9 ∷ 9 ∷ 9 ∷ 9 ∷ 9 ∷ 9 ∷ 9 ∷ 77 ∷ [])

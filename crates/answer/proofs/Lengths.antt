@@ -36,17 +36,17 @@ output-within b f i n h =
     let e : n ≡ suc i + (n - suc i) = omega arith in
     rw e (omega (arith, length-output b f i, outputs-rising b f (suc i) (n - suc i)))
 
-pub length-outputs : (b : Bounds) (f : ℕ → List ℕ) (n : ℕ) → length (outputBytes b f n) ≡ 2 * (n * (b .numerator + 1))
+pub length-outputs : (b : Bounds) (f : ℕ → List ℕ) (n : ℕ) → length (outputBytes b f n) ≡ 2 * (n * (b .df + 1))
 unfolding outputBytes
 length-outputs b f zero = omega arith
 length-outputs b f (suc n) = omega (arith, length-outputs b f n, length-output b f n)
 
 -- where the last output ends
-pub answer-end : (b : Bounds) (f : ℕ → List ℕ) → 4 + 2 * (b .denominator + 1) + length (outputBytes b f (b .outputs)) ≡ answerLengthOf b
+pub answer-end : (b : Bounds) (f : ℕ → List ℕ) → 4 + 2 * (b .dg + 1) + length (outputBytes b f (b .outputs)) ≡ answerLengthOf b
 answer-end b f = omega (arith, length-outputs b f (b .outputs))
 
 -- where output i begins
-pub numerator-start : (b : Bounds) (f : ℕ → List ℕ) (i : ℕ) → numeratorStart b i ≡ 4 + 2 * (b .denominator + 1) + length (outputBytes b f i)
+pub numerator-start : (b : Bounds) (f : ℕ → List ℕ) (i : ℕ) → numeratorStart b i ≡ 4 + 2 * (b .dg + 1) + length (outputBytes b f i)
 unfolding numeratorStart outputBytes
 numerator-start b f zero = omega arith
 numerator-start b f (suc i) = omega (arith, numerator-start b f i, length-output b f i)
@@ -59,8 +59,8 @@ length-front word g count =
 pub length-answer : (b : Bounds) (word : ℕ) (g : List ℕ) (f : ℕ → List ℕ) → length (answerBytes b word g f) ≡ answerLengthOf b
 length-answer b word g f =
     let outputs = outputBytes b f (b .outputs) in
-    length-append (fourBytes word ++ coefficientBytes g (b .denominator + 1)) outputs
-    ∙ ap (λ k. k + length outputs) (length-front word g (b .denominator + 1)) ∙ answer-end b f
+    length-append (fourBytes word ++ coefficientBytes g (b .dg + 1)) outputs
+    ∙ ap (λ k. k + length outputs) (length-front word g (b .dg + 1)) ∙ answer-end b f
 
 -- what is read from an area that holds an answer
 pub answer-front : (b : Bounds) (word : ℕ) (g : List ℕ) (f : ℕ → List ℕ) (old : List ℕ) → take (answerLengthOf b) (overwritten (answerBytes b word g f) old) ≡ answerBytes b word g f
@@ -76,5 +76,5 @@ answer-behind b word g f old =
     drop-at new (drop (length new) old) (answerLengthOf b) long ∙ ap (λ k. drop k old) long
 
 -- "254 at most": a job has at most 31 rows, and no fewer than df + dg + 2 E + 1
-pub answer-short : (b : Bounds) → b .numerator + b .denominator ≤ 30 → b .outputs ≤ 4 → answerLengthOf b ≤ 254
-answer-short b low few = omega (arith, mul-le-mul-right (b .numerator + 1) few)
+pub answer-short : (b : Bounds) → b .df + b .dg ≤ 30 → b .outputs ≤ 4 → answerLengthOf b ≤ 254
+answer-short b low few = omega (arith, mul-le-mul-right (b .df + 1) few)

@@ -68,10 +68,10 @@ module _ (b : Bounds) (word : ℕ) (g : List ℕ) (f : ℕ → List ℕ) (area :
       → numberFrom (overwritten (answerBytes b word g f) area) 0 * 65536 + numberFrom (overwritten (answerBytes b word g f) area) 2 ≡ word
   read-word small = word-of-bytes word small
 
-  pub read-denominator : SixteenBits g → (k : ℕ) → k ≤ b .denominator
+  pub read-denominator : SixteenBits g → (k : ℕ) → k ≤ b .dg
       → numberFrom (overwritten (answerBytes b word g f) area) (4 + 2 * k) ≡ getD g k 0
   read-denominator low k within =
-      let count = b .denominator + 1 in
+      let count = b .dg + 1 in
       let front = fourBytes word ++ coefficientBytes g count in
       let outputs = outputBytes b f (b .outputs) in
       let long = length-front word g count in
@@ -84,9 +84,9 @@ module _ (b : Bounds) (word : ℕ) (g : List ℕ) (f : ℕ → List ℕ) (area :
   pub read-numerator : ((i : ℕ) → i < b .outputs → SixteenBits (f i)) → (i k : ℕ) → i < b .outputs → k ≤ numeratorBoundOf b i
       → numberFrom (overwritten (answerBytes b word g f) area) (numeratorStart b i + 2 * k) ≡ getD (f i) k 0
   read-numerator low i k exists within =
-      let front = fourBytes word ++ coefficientBytes g (b .denominator + 1) in
+      let front = fourBytes word ++ coefficientBytes g (b .dg + 1) in
       let outputs = outputBytes b f (b .outputs) in
-      let long = length-front word g (b .denominator + 1) in
+      let long = length-front word g (b .dg + 1) in
       let size = length-append front outputs in
       let start = numerator-start b f i in
       number-before (front ++ outputs) (drop (length (front ++ outputs)) area) (numeratorStart b i + 2 * k)

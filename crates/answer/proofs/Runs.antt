@@ -35,15 +35,15 @@ module _ (b : Bounds) (f : ℕ → List ℕ) (i at next bound : ℕ) (place : ne
 -- the word, then g, then the outputs are the whole answer
 pub whole-answer : (b : Bounds) (word : ℕ) (g : List ℕ) (f : ℕ → List ℕ) (old once twice whole : List ℕ) (next : ℕ) → answerLengthOf b ≤ length old
     → once ≡ overwritten (fourBytes word) old
-    → twice ≡ spliced 4 (coefficientBytes g (b .denominator + 1)) once
-    → next ≡ 4 + 2 * (b .denominator + 1)
+    → twice ≡ spliced 4 (coefficientBytes g (b .dg + 1)) once
+    → next ≡ 4 + 2 * (b .dg + 1)
     → whole ≡ spliced next (outputBytes b f (b .outputs)) twice
     → whole ≡ overwritten (answerBytes b word g f) old
 whole-answer b word g f old once twice whole next fits first second place third =
-    let front = fourBytes word ++ coefficientBytes g (b .denominator + 1) in
-    let long = length-front word g (b .denominator + 1) in
+    let front = fourBytes word ++ coefficientBytes g (b .dg + 1) in
+    let long = length-front word g (b .dg + 1) in
     let end = answer-end b f in
     let both : twice ≡ overwritten front old =
-    second ∙ ap (spliced 4 (coefficientBytes g (b .denominator + 1))) first
-    ∙ splice-behind (fourBytes word) (coefficientBytes g (b .denominator + 1)) old (omega arith) in
+    second ∙ ap (spliced 4 (coefficientBytes g (b .dg + 1))) first
+    ∙ splice-behind (fourBytes word) (coefficientBytes g (b .dg + 1)) old (omega arith) in
     third ∙ rw (both, place, ← long) (splice-behind front (outputBytes b f (b .outputs)) old (omega arith))

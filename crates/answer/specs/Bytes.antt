@@ -26,11 +26,11 @@ outputBytes b f (suc i) = outputBytes b f i ++ coefficientBytes (f i) (numerator
 -- "A 32-bit word comes first .. Then come dg + 1 coefficients of g, and df + 1 of each of f1 to fn"
 abbrev pub answerBytes : Bounds → ℕ → List ℕ → (ℕ → List ℕ) → List ℕ
 answerBytes b word g f =
-    fourBytes word ++ coefficientBytes g (b .denominator + 1) ++ outputBytes b f (b .outputs)
+    fourBytes word ++ coefficientBytes g (b .dg + 1) ++ outputBytes b f (b .outputs)
 
 -- the byte at which the coefficients of output i begin
 unfoldable pub numeratorStart : Bounds → ℕ → ℕ
-numeratorStart b zero = 4 + 2 * (b .denominator + 1)
+numeratorStart b zero = 4 + 2 * (b .dg + 1)
 numeratorStart b (suc i) = numeratorStart b i + 2 * (numeratorBoundOf b i + 1)
 
 -- "Bytes of the answer area behind it keep their contents"

@@ -64,7 +64,7 @@ pub fn write(area: &mut [u8], b: Bounds, word: u32, g: Poly, f: [Poly; 4]) -> us
         × (now (area .exit) ≡ overwritten (answerBytes b word (g .c) (coefficientsAt f)) (now (area .entry))) ⌝ }
 {
     put_word(area, word);
-    let dg = b.denominator;
+    let dg = b.dg;
     let next = put_coefficients(area, 4, g, dg + 1);
     put_outputs(area, next, b, f)
 }

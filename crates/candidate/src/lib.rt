@@ -1,8 +1,8 @@
 // METHOD: the outputs one after the other. After each one the candidate holds the only fractions, over their common denominator,
 // that an answer can have there; or it is known that there is no answer.
+ghost use Rattle.format.specs.Bounds.{Sized, primeOf};
 ghost use Prim.Native.Nat.{_<_};
 ghost use mathlib.Core.Path.{_≡_};
-ghost use Rattle.column.specs.Sizes.{Sized, primeOf};
 ghost use Rattle.evaluation.specs.Values.{formsOf};
 ghost use Rattle.extension.specs.Extensions.{Fitting};
 ghost use Rattle.candidate.specs.Candidates.{startCandidate, nextOf, candidateAfter, Table};
@@ -37,7 +37,7 @@ fn next(
     let prime = b.prime;
     let rows = b.rows;
     let g = c.g;
-    let slack = b.denominator + b.errors;
+    let slack = b.dg + b.errors;
     let right = column::column(b, xs, values, i, g);
     let z = right.z;
     let s = interpolation::solution(prime, points, xs, &z, rows, rows - 1 - slack, slack);

@@ -1,4 +1,5 @@
 -- The right-hand sides of one output's conditions, row by row.
+use Rattle.format.specs.Bounds.{primeOf}
 use mathlib.Core.Path.{_≡_}
 use mathlib.Core.Bool.{cond}
 use mathlib.Core.List.{List}
@@ -8,7 +9,6 @@ use Rattle.format.specs.declared.Bounds.{Bounds}
 use Rattle.poly.specs.Coefficients.{at, tabulate}
 use Rattle.poly.specs.Operations.{valueOf}
 use Rattle.evaluation.specs.Values.{formsOf}
-use Rattle.column.specs.Sizes.{primeOf}
 
 -- g(x) y at row l, y the value of output i
 unfoldable pub columnAt : ℕ → ℕ → List ℕ → List ℕ → ℕ → List ℕ → ℕ → ℕ

@@ -34,7 +34,7 @@ use Rattle.job.proofs.Facts.{well-formed-facts}
 use Rattle.answer.specs.Bytes.{numeratorStart}
 use Rattle.word.proofs.Words.{word-lt, word-same}
 use Rattle.answer.proofs.Reading.{SixteenBits, read-word, read-denominator, read-numerator}
-use Rattle.recovery.specs.Answers.{primeOf, wrongAt, Within}
+use Rattle.recovery.specs.Answers.{jobPrime, wrongAt, Within}
 use Rattle.recovery.specs.Recovery.{wordFor, recoveredArea, Answered, Settled}
 use Rattle.enlargement.specs.Enlargement.{Lists, AnsweredWith, Named, AnsweredExactly}
 use Rattle.recovery_laws.proofs.SameFractions.{Same, wrong-at-same, wrong-count-same, answer-same, at-most-one}
@@ -58,7 +58,7 @@ never-recovered s area bytes wrong =
     (not-yet AreaTooShort (ifHolds (areaTooShort s area) 0) _ bytes wrong (accepted-only bytes wrong)))))))
 
 module _ (s : List ℕ) {f : ℕ → List ℕ} {g : List ℕ} (within : Within s f g) where
-  sixteen-bits : {n : ℕ} {a : List ℕ} → Bounded (primeOf s) n a → SixteenBits a
+  sixteen-bits : {n : ℕ} {a : List ℕ} → Bounded (jobPrime s) n a → SixteenBits a
   sixteen-bits h k = let l = h .residues k in let m = modulus-small (boundsOf s .prime) in omega arith
 
   -- the area lists the answer that was written
@@ -80,11 +80,11 @@ module _ (s : List ℕ) {f : ℕ → List ℕ} {g : List ℕ} (within : Within s
 -- what one area lists is one fraction
 same-lists : (s after : List ℕ) {f f' : ℕ → List ℕ} {g g' : List ℕ} → Lists s after f g → Lists s after f' g' → Same (boundsOf s .outputs) f g f' g'
 same-lists s after {f} {f'} {g} {g'} h h' = record {
-  denominator = λ k. by (decLe k (boundsOf s .denominator));
+  denominator = λ k. by (decLe k (boundsOf s .dg));
   numerators = λ i li k. by-output i li (decLe k (numeratorBoundOf (boundsOf s) i));
 }
   where
-    by : {k : ℕ} → Dec (k ≤ boundsOf s .denominator) → at g k ≡ at g' k
+    by : {k : ℕ} → Dec (k ≤ boundsOf s .dg) → at g k ≡ at g' k
     by {k} (yes l) = sym (h .denominator k l) ∙ h' .denominator k l
     by {k} (no l) = h .meets .denominator k (omega arith) ∙ sym (h' .meets .denominator k (omega arith))
 

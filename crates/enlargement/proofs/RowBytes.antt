@@ -11,10 +11,10 @@ use borrow.Author.Tests.{eqb-true, eq-eqb}
 use Rattle.format.specs.Numbers.{numberFrom}
 use Rattle.field.specs.Primes.{modulusOf}
 use Rattle.header.specs.Header.{boundsOf}
-use Rattle.rows.specs.Rows.{numberAt, pointOf, valueOf}
+use Rattle.rows.specs.Rows.{numberAt, jobPoint, jobValue}
 use Rattle.judge.specs.Rows.{wrongRow}
 use Rattle.judge.proofs.Rows.{wrong-same}
-use Rattle.recovery.specs.Answers.{primeOf, wrongAt}
+use Rattle.recovery.specs.Answers.{jobPrime, wrongAt}
 use Rattle.enlargement.specs.Enlargement.{rowBytes, StandsAt, sameBytes}
 
 -- the test on bytes is equality
@@ -57,13 +57,13 @@ module _ (s s' : List ℕ) (outputs : boundsOf s' .outputs ≡ boundsOf s .outpu
   same-number : (i j c : ℕ) → c ≤ boundsOf s .outputs → StandsAt s i s' j → numberAt s i c ≡ numberAt s' j c
   same-number i j c l e = in-row s i c l ∙ ap (λ t. numberFrom t (2 * c)) (sym e) ∙ sym (in-row s' j c (omega arith))
 
-  pub same-point : (i j : ℕ) → StandsAt s i s' j → pointOf s i ≡ pointOf s' j
+  pub same-point : (i j : ℕ) → StandsAt s i s' j → jobPoint s i ≡ jobPoint s' j
   same-point i j e = same-number i j 0 (omega arith) e
 
   -- with the same prime, a row is wrong in both jobs or in none
   pub same-wrong : boundsOf s' .prime ≡ boundsOf s .prime → (f : ℕ → List ℕ) (g : List ℕ) (i j : ℕ) → StandsAt s i s' j
       → wrongAt s f g i ≡ wrongAt s' f g j
   same-wrong prime f g i j e =
-      ap (λ x. wrongRow (primeOf s) (boundsOf s .outputs) x (valueOf s i) f g) (same-point i j e)
-      ∙ wrong-same (primeOf s) (pointOf s' j) (boundsOf s .outputs) f f g g (λ k l. same-number i j (1 + k) (omega arith) e) (λ k l m. refl) (λ m. refl)
-      ∙ ap₂ (λ q n. wrongRow (modulusOf q) n (pointOf s' j) (valueOf s' j) f g) (sym prime) (sym outputs)
+      ap (λ x. wrongRow (jobPrime s) (boundsOf s .outputs) x (jobValue s i) f g) (same-point i j e)
+      ∙ wrong-same (jobPrime s) (jobPoint s' j) (boundsOf s .outputs) f f g g (λ k l. same-number i j (1 + k) (omega arith) e) (λ k l m. refl) (λ m. refl)
+      ∙ ap₂ (λ q n. wrongRow (modulusOf q) n (jobPoint s' j) (jobValue s' j) f g) (sym prime) (sym outputs)

@@ -15,7 +15,7 @@ use Rattle.header.specs.Header.{boundsOf}
 use Rattle.job.proofs.Facts.{WellFormedFacts, well-formed-facts}
 use Rattle.word.specs.Word.{bitAt}
 use Rattle.word.proofs.Words.{bit-exactly}
-use Rattle.recovery.specs.Answers.{primeOf, wrongAt, wrongCount, Within, Reduced}
+use Rattle.recovery.specs.Answers.{jobPrime, wrongAt, wrongCount, Within, Reduced}
 use Rattle.recovery.specs.Recovery.{Settled}
 use Rattle.enlargement.specs.Enlargement.{AnsweredWith, Named, StandsAt, furtherRow, furtherWrong, MarkedAt, Enlarged, Comparable, EnlargementRule}
 use Rattle.enlargement.proofs.RowBytes.{same-wrong}
@@ -33,7 +33,7 @@ module _ {s area : List ℕ} {r : Outcome} {after : List ℕ} (S : Settled s are
   W' : WellFormedFacts s' (length area')
   W' = well-formed-facts s' (length area') (C .well-formed)
 
-  same-prime : primeOf s' ≡ primeOf s
+  same-prime : jobPrime s' ≡ jobPrime s
   same-prime = ap modulusOf (C .prime)
 
   -- f and g are within the bounds of T'
@@ -52,8 +52,8 @@ module _ {s area : List ℕ} {r : Outcome} {after : List ℕ} (S : Settled s are
       lower : (i : ℕ) → i < boundsOf s' .outputs → i < boundsOf s .outputs
       lower i l = let e = C .outputs in omega arith
 
-  reduced : Reduced (primeOf s') (boundsOf s' .outputs) f g
-  reduced = subst (λ n. Reduced (primeOf s') n f g) (sym (C .outputs)) (subst (λ p. Reduced p (boundsOf s .outputs) f g) (sym same-prime) (N .answer .reduced))
+  reduced : Reduced (jobPrime s') (boundsOf s' .outputs) f g
+  reduced = subst (λ n. Reduced (jobPrime s') n f g) (sym (C .outputs)) (subst (λ p. Reduced p (boundsOf s .outputs) f g) (sym same-prime) (N .answer .reduced))
 
   -- k + w
   together : wrongCount s' f g ≡ k + furtherWrong s s' f g

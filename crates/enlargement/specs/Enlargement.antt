@@ -22,12 +22,12 @@ use Rattle.recovery.specs.Recovery.{Settled}
 
 -- no coefficient of f and g stands above the job's degree bounds
 pub record Meets (s : List ℕ) (f : ℕ → List ℕ) (g : List ℕ) : Type 0 where
-  pub denominator : (k : ℕ) → boundsOf s .denominator < k → at g k ≡ 0
+  pub denominator : (k : ℕ) → boundsOf s .dg < k → at g k ≡ 0
   pub numerators : (i k : ℕ) → i < boundsOf s .outputs → numeratorBoundOf (boundsOf s) i < k → at (f i) k ≡ 0
 
 -- "its sheet lists the coefficients of this g and these fi", "with zeros up to its own bounds"
 pub record Lists (s after : List ℕ) (f : ℕ → List ℕ) (g : List ℕ) : Type 0 where
-  pub denominator : (k : ℕ) → k ≤ boundsOf s .denominator → numberFrom after (4 + 2 * k) ≡ at g k
+  pub denominator : (k : ℕ) → k ≤ boundsOf s .dg → numberFrom after (4 + 2 * k) ≡ at g k
   pub numerators : (i k : ℕ) → i < boundsOf s .outputs → k ≤ numeratorBoundOf (boundsOf s) i
       → numberFrom after (numeratorStart (boundsOf s) i + 2 * k) ≡ at (f i) k
   pub meets : Meets s f g

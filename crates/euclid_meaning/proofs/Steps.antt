@@ -14,7 +14,7 @@ use Rattle.reciprocal.proofs.PrimeField.{Residue, residue, addR, mulR, negR, ad
 use Rattle.poly.specs.Coefficients.{at, Bounded}
 use Rattle.poly.proofs.Lists.{at-past}
 use Rattle.poly_meaning.proofs.Series.{series, residue-mod, tabulate-means}
-use Rattle.division.specs.Division.{shifted, cancelledAt, cancelledOf, factorOf, stepOf, remainderFrom, quotientFrom}
+use Rattle.division.specs.Division.{shifted, cancelledAt, cancelledOf, factorOf, divisionStep, remainderFrom, quotientFrom}
 use Rattle.division.proofs.Cancellation.{shifted-above, length-step}
 use Rattle.division.proofs.Steps.{factor-small}
 use Rattle.euclid_meaning.proofs.Monomials.{monomial, monomial-here, monomial-other}
@@ -76,13 +76,13 @@ module _ (p : ℕ) (P : IsPrime p) where
   pub steps-mean : {b : List ℕ} (m i : ℕ) → Bounded p (m + 1) b → (n : ℕ) (a c : List ℕ) → n + m ≤ 32 → length a ≡ 32 → length c ≡ 32
       → ((j : ℕ) → j < n → at c j ≡ 0)
       → addS R (mulS R (S (quotientFrom p b m i n a c)) (S b)) (S (remainderFrom p b m i n a)) ≡ addS R (mulS R (S c) (S b)) (S a)
-  unfolding remainderFrom quotientFrom stepOf
+  unfolding remainderFrom quotientFrom divisionStep
   steps-mean m i bb zero a c l size-a size-c free = refl
   steps-mean {b} m i bb (suc n) a c l size-a size-c free =
       let k = factorOf p m i n a in
       let small : k < p = factor-small p b m i (let t = P .two in omega arith) n a in
       let past : (j : ℕ) → 32 ≤ j → at (shifted n b) j ≡ 0 = (λ j h. shifted-above n b j (omega arith) ∙ bb .within (j - n) (omega arith)) in
       let kept : (j : ℕ) → j < n → at (set c n k) j ≡ 0 = (λ j h. getD-set-other c n j k 0 (λ same. omega arith) ∙ free j (omega arith)) in
-      steps-mean m i bb n (stepOf p b m i n a) (set c n k) (omega arith) (length-step p b m i n a) (length-set c n k ∙ size-c) kept
+      steps-mean m i bb n (divisionStep p b m i n a) (set c n k) (omega arith) (length-step p b m i n a) (length-set c n k ∙ size-c) kept
       ∙ ap₂ (λ q r. addS R (mulS R q (S b)) r) (set-means c n k (omega arith) (free n (omega arith))) (cancelled-means k n a b small size-a past)
       ∙ moved (seriesRing R) (S c) (monomial R n (ρ k)) (S b) (S a)

@@ -1,6 +1,6 @@
 -- What the code's steps make of a candidate is what the definitions say.
 use mathlib.Core.Path.{_≡_, refl, sym, ap, subst, _∙_}
-use mathlib.Core.Bool.{Bool, true, false, _&&_}
+use mathlib.Core.Bool.{Bool, true, false, _&&_, cond}
 use mathlib.Core.List.{List, []}
 use Prim.Native.Nat.{ℕ, zero, suc, _+_, _≤_, _<_}
 use native.Mathlib.Numerals.{add-one}
@@ -10,14 +10,12 @@ use lib.ListN.{length, getD, set}
 use lib.Seq.{set-getD}
 use borrow.Author.Tests.{lt-ltb, le-ltb}
 use Rattle.format.specs.declared.Bounds.{Bounds}
-use Rattle.format.specs.Bounds.{numeratorBoundOf}
+use Rattle.format.specs.Bounds.{numeratorBoundOf, primeOf}
 use Rattle.poly.specs.declared.Poly.{Poly}
 use Rattle.poly.specs.Coefficients.{at, Bounded}
 use Rattle.poly.specs.Operations.{lengthOf, productOf}
 use Rattle.poly.proofs.Lengths.{length-at-most}
 use Rattle.poly_product.proofs.Products.{product-one}
-use Rattle.pairs.specs.Pairs.{choose}
-use Rattle.column.specs.Sizes.{primeOf}
 use Rattle.vector.specs.declared.Candidate.{Candidate}
 use Rattle.extension.specs.Extensions.{numeratorAt, Fitting, raisedAt, raisedBelow, withOutput, extendedOf}
 use Rattle.vector.specs.Vector.{unsolvableCandidate}
@@ -42,11 +40,11 @@ module _ (b : Bounds) (h : List ℕ) (j : ℕ) (c : Candidate) where
       not-both (suc l) m n k = simp (lt-ltb 0 (suc l) (omega arith), le-ltb m n (k (omega arith)))
 
 -- a step is made where the candidate before it can still be an answer, and else it stays
-pub step-made : (f : Candidate → Candidate) {r x : Candidate} → r ≡ x → r .solvable ≡ true → f r ≡ choose (x .solvable) (f x) x
-step-made f {r} e t = subst (λ (y : Candidate). f r ≡ choose (y .solvable) (f y) y) e (rw t)
+pub step-made : (f : Candidate → Candidate) {r x : Candidate} → r ≡ x → r .solvable ≡ true → f r ≡ cond (x .solvable) (f x) x
+step-made f {r} e t = subst (λ (y : Candidate). f r ≡ cond (y .solvable) (f y) y) e (rw t)
 
-pub step-left : (f : Candidate → Candidate) {r x : Candidate} → r ≡ x → r .solvable ≡ false → r ≡ choose (x .solvable) (f x) x
-step-left f {r} e t = subst (λ (y : Candidate). r ≡ choose (y .solvable) (f y) y) e (rw t)
+pub step-left : (f : Candidate → Candidate) {r x : Candidate} → r ≡ x → r .solvable ≡ false → r ≡ cond (x .solvable) (f x) x
+step-left f {r} e t = subst (λ (y : Candidate). r ≡ cond (y .solvable) (f y) y) e (rw t)
 
 -- the numerators of the first outputs times h
 module _ (b : Bounds) (h : List ℕ) (c : Candidate) where
@@ -63,9 +61,9 @@ module _ (b : Bounds) (h : List ℕ) (c : Candidate) where
   unfolding raisedBelow
   raised-stays j e t = step-left (raisedAt b h j) e t ∙ ap (λ (k : ℕ). raisedBelow b h k c) (sym (add-one j))
 
-choose-same : (t : Bool) (c : Candidate) → choose t c c ≡ c
-choose-same true c = refl
-choose-same false c = refl
+cond-same : (t : Bool) (c : Candidate) → cond t c c ≡ c
+cond-same true c = refl
+cond-same false c = refl
 
 -- one output more, whose fraction is a / h
 module _ (b : Bounds) (i : ℕ) (a h : List ℕ) where
@@ -80,15 +78,15 @@ module _ (b : Bounds) (i : ℕ) (a h : List ℕ) where
   output-left g r t = rw t
 
   module _ (c : Candidate) where
-    pub denominator-too-long : b .denominator + 2 < lengthOf (c .g .c) + lengthOf h → unsolvableCandidate ≡ extendedOf b i a h c
+    pub denominator-too-long : b .dg + 2 < lengthOf (c .g .c) + lengthOf h → unsolvableCandidate ≡ extendedOf b i a h c
     unfolding extendedOf
     denominator-too-long l = simp (lt-ltb _ _ l)
 
     pub numerator-too-long : numeratorBoundOf b i + 1 < lengthOf a → unsolvableCandidate ≡ extendedOf b i a h c
     unfolding extendedOf
-    numerator-too-long l = simp (lt-ltb _ _ l, choose-same)
+    numerator-too-long l = simp (lt-ltb _ _ l, cond-same)
 
-    pub extended-is : lengthOf (c .g .c) + lengthOf h ≤ b .denominator + 2 → lengthOf a ≤ numeratorBoundOf b i + 1
+    pub extended-is : lengthOf (c .g .c) + lengthOf h ≤ b .dg + 2 → lengthOf a ≤ numeratorBoundOf b i + 1
         → withOutput b i a (c .g .c) h (raisedBelow b h i c) ≡ extendedOf b i a h c
     unfolding extendedOf
     extended-is l m = simp (le-ltb _ _ l, le-ltb _ _ m)
@@ -108,7 +106,7 @@ module _ {b : Bounds} {h : List ℕ} (bh : Bounded (primeOf b) 1 h) (constant : 
   one-raised : (i : ℕ) → i ≤ 4 → raisedBelow b h i c ≡ c
   unfolding raisedBelow
   one-raised zero l = refl
-  one-raised (suc i) l = rw (one-raised i (omega arith), one-raised-at i l) (choose-same (c .solvable) c)
+  one-raised (suc i) l = rw (one-raised i (omega arith), one-raised-at i l) (cond-same (c .solvable) c)
 
   pub one-extended : (i : ℕ) (a : List ℕ) → i < 4 → lengthOf a ≤ numeratorBoundOf b i + 1
       → withOutput b i a (c .g .c) h c ≡ extendedOf b i a h c

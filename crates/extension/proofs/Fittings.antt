@@ -14,7 +14,7 @@ use denote.Array.{each}
 use borrow.Author.Needs.{length-unmapped}
 use Rattle.field.proofs.Moduli.{modulus-positive}
 use Rattle.format.specs.declared.Bounds.{Bounds}
-use Rattle.format.specs.Bounds.{numeratorBoundOf}
+use Rattle.format.specs.Bounds.{numeratorBoundOf, primeOf}
 use Rattle.poly.specs.declared.Poly.{Poly}
 use Rattle.poly.proofs.Poly.{the-field}
 use Rattle.poly.specs.Coefficients.{Bounded}
@@ -23,7 +23,6 @@ use Rattle.poly.specs.Operations.{productAt, productOf}
 use Rattle.poly.proofs.Lists.{bounded-mono, bounded-zeros, bounded-tabulate}
 use Rattle.poly.proofs.Bounds.{zero-remainder}
 use Rattle.poly_product.proofs.Products.{terms, terms-after, sum-zeros, bounded-product}
-use Rattle.column.specs.Sizes.{primeOf}
 use Rattle.vector.specs.declared.Candidate.{Candidate}
 use Rattle.extension.specs.Extensions.{Fitting}
 use Rattle.vector.specs.Vector.{unsolvableCandidate}
@@ -59,7 +58,7 @@ bounded-none p m (suc n) (suc j) positive = bounded-none p m n j positive
 
 -- candidates that keep to the bounds
 module _ (b : Bounds) where
-  pub fitting-none : (solvable : Bool) (g : Poly) → Bounded (primeOf b) (b .denominator + 1) (g .c)
+  pub fitting-none : (solvable : Bool) (g : Poly) → Bounded (primeOf b) (b .dg + 1) (g .c)
       → Fitting b (record { solvable = solvable; g = g; f = replicate 4 zeroPoly })
   fitting-none solvable g bg = record {
     size = refl;
@@ -73,7 +72,7 @@ module _ (b : Bounds) where
 
   -- another denominator, and another numerator of output j
   pub fitting-set : {c : Candidate} → Fitting b c → (solvable : Bool) (g v : Poly) (j : ℕ) → j < 4
-      → Bounded (primeOf b) (b .denominator + 1) (g .c) → Bounded (primeOf b) (numeratorBoundOf b j + 1) (v .c)
+      → Bounded (primeOf b) (b .dg + 1) (g .c) → Bounded (primeOf b) (numeratorBoundOf b j + 1) (v .c)
       → Fitting b (record { solvable = solvable; g = g; f = set (c .f) j v })
   fitting-set {c} h solvable g v j l bg bv = record {
     size = length-set (c .f) j v ∙ h .size;

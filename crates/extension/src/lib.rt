@@ -1,10 +1,10 @@
 // A candidate with one output more: its fraction a / h, and every earlier numerator times h.
+ghost use Rattle.format.specs.Bounds.{Sized};
 ghost use Prim.Native.Nat.{_≤_, _<_};
 ghost use mathlib.Core.Path.{_≡_};
 ghost use Rattle.field.specs.Primes.{modulusOf};
 ghost use Rattle.poly.specs.Coefficients.{Bounded};
 ghost use Rattle.poly.specs.Operations.{lengthOf};
-ghost use Rattle.column.specs.Sizes.{Sized};
 ghost use Rattle.extension.specs.Extensions.{raisedAt, raisedBelow, extendedOf, Fitting};
 use format::Bounds;
 use poly::Poly;
@@ -65,7 +65,7 @@ pub fn extended(b: Bounds, c: Candidate, i: usize, n: usize, a: Poly, h: Poly) -
         }
     }
     let prime = b.prime;
-    let bound = b.denominator;
+    let bound = b.dg;
     let g = c.g;
     let lg = poly::length(bound + 1, g);
     if bound + 2 < lg + lh {

@@ -9,8 +9,8 @@ pub struct Bounds {
     pub prime: Prime,
     pub outputs: usize,
     pub rows: usize,
-    pub numerator: usize,
-    pub denominator: usize,
+    pub df: usize,
+    pub dg: usize,
     pub errors: usize,
 }
 
@@ -19,7 +19,7 @@ impl Bounds {
     pub fn numerator_bound(self, i: usize) -> usize
         ensures { λ r. ⌜ r ≡ numeratorBoundOf self i ⌝ }
     {
-        self.numerator
+        self.df
     }
 
     // How many bytes an answer has.
@@ -27,7 +27,7 @@ impl Bounds {
         requires { ⌜ Storable self ⌝ }
         ensures { λ r. ⌜ r ≡ answerLengthOf self ⌝ }
     {
-        4 + 2 * ((self.denominator + 1) + self.outputs * (self.numerator + 1))
+        4 + 2 * ((self.dg + 1) + self.outputs * (self.df + 1))
     }
 }
 

@@ -23,7 +23,7 @@ use Rattle.division.specs.Division.{
   cancelledAt,
   cancelledOf,
   factorOf,
-  stepOf,
+  divisionStep,
   remainderFrom,
   quotientFrom,
   degreeOf,
@@ -41,7 +41,7 @@ use Rattle.candidate.specs.Candidates.{startCandidate, withFraction, nextOf, ca
 use Rattle.cursor.specs.Bits.{headerOf}
 use Rattle.header.specs.Header.{boundsOf, spareBitOf}
 use Rattle.row_search.specs.Search.{firstBelow}
-use Rattle.rows.specs.Rows.{numberAt, pointsOf, valuesOf}
+use Rattle.rows.specs.Rows.{numberAt, jobPoints, jobValues}
 use Rattle.job.specs.Refusals.{outcomeOfRows, outcomeOf}
 use Rattle.judge.specs.Rows.{wrongRow}
 use Rattle.word.specs.Word.{wordOf, countBelow}
@@ -77,11 +77,11 @@ each (e ∷ l) h = (
 )
 
 as-expected : map computed table ≡ map expected table
-unfolding table resultOf outcomeOf outcomeOfRows headerOf boundsOf spareBitOf firstBelow numberAt pointsOf valuesOf tabulate judgedSolution
+unfolding table resultOf outcomeOf outcomeOfRows headerOf boundsOf spareBitOf firstBelow numberAt jobPoints jobValues tabulate judgedSolution
     countedSolution unsolvedSolution wordBy candidateAfter nextOf withFraction extendedOf withOutput raisedBelow raisedAt columnOf columnAt
     startCandidate unsolvableCandidate pairsAfter stepBy startOf smallerOf combinedOf advancedOf discrepancyOf valueOf combinationOf
     combinationAt timesLinearOf timesLinearAt scaledOf scaledAt lengthOf lengthBelow sumBelow productAt productOf unitOf numeratorOf
-    denominatorOf gcdOf gcdFrom remainderOf quotientOf leadingReciprocal degreeOf quotientFrom remainderFrom stepOf factorOf cancelledOf
+    denominatorOf gcdOf gcdFrom remainderOf quotientOf leadingReciprocal degreeOf quotientFrom remainderFrom divisionStep factorOf cancelledOf
     cancelledAt shifted reciprocalOf leastFrom wrongRow wordOf countBelow coefficientBytes outputBytes
 as-expected = refl
 

@@ -8,9 +8,9 @@ use Rattle.format.specs.declared.Outcome.{Outcome}
 use Rattle.format.specs.declared.Outcome.the-variants.{Accepted, Recovered, Refused}
 use Rattle.poly.specs.Vectors.{coefficientsAt}
 use Rattle.header.specs.Header.{boundsOf}
-use Rattle.rows.specs.Rows.{pointsOf, valuesOf}
+use Rattle.rows.specs.Rows.{jobPoints, jobValues}
 use Rattle.job.specs.Refusals.{outcomeOf, WellFormed}
-use Rattle.job.specs.Answer.{readingOf}
+use Rattle.job.specs.Reading.{readingOf}
 use Rattle.answer.specs.Bytes.{answerBytes, overwritten}
 use Rattle.solver.specs.declared.Solution.{Solution}
 use Rattle.solver.specs.Solutions.{solutionFor}
@@ -33,7 +33,7 @@ solvedBy s area t = written s area t (t .outcome)
 
 -- after the tests before 8
 abbrev tested : List ℕ → List ℕ → Outcome → Result
-tested s area Accepted = solvedBy s area (solutionFor (boundsOf s) (pointsOf s) (valuesOf s))
+tested s area Accepted = solvedBy s area (solutionFor (boundsOf s) (jobPoints s) (jobValues s))
 tested s area (Recovered bytes wrong) = record { outcome = Recovered bytes wrong; after = area }
 tested s area (Refused reason row) = record { outcome = Refused reason row; after = area }
 
@@ -46,11 +46,11 @@ module _ (s area : List ℕ) where
       let same = reading-outcome s area (readingOf s (length area)) refl ∙ e in
       subst (λ t. Settled s area t area) same (settle-early s area (readingOf s (length area)) refl (λ h. refused (sym same ∙ h)))
 
-  unanswered : WellFormed s (length area) → (t : Solution) → t ≡ solutionFor (boundsOf s) (pointsOf s) (valuesOf s) → (o : Outcome) → t .outcome ≡ o
+  unanswered : WellFormed s (length area) → (t : Solution) → t ≡ solutionFor (boundsOf s) (jobPoints s) (jobValues s) → (o : Outcome) → t .outcome ≡ o
       → ((bytes wrong : ℕ) → o ≡ Recovered bytes wrong → ⊥) → Settled s area o area
   unanswered wf t e o h none = subst (λ u. Settled s area u area) h (settle-unsolved s area wf t e (λ bytes wrong k. none bytes wrong (sym h ∙ k)))
 
-  late : WellFormed s (length area) → (t : Solution) → t ≡ solutionFor (boundsOf s) (pointsOf s) (valuesOf s) → (o : Outcome) → t .outcome ≡ o
+  late : WellFormed s (length area) → (t : Solution) → t ≡ solutionFor (boundsOf s) (jobPoints s) (jobValues s) → (o : Outcome) → t .outcome ≡ o
       → Settled s area (written s area t o .outcome) (written s area t o .after)
   late wf t e Accepted h = unanswered wf t e Accepted h (λ bytes wrong k. let z : _≡_ {A = ℕ} 0 1 = cc in omega arith)
   late wf t e (Refused reason row) h = unanswered wf t e (Refused reason row) h (λ bytes wrong k. let z : _≡_ {A = ℕ} 0 1 = cc in omega arith)

@@ -12,8 +12,8 @@ boundsOf s =
       prime = primeOfCode (headerOf s / 2 ^ 22 % 4);
       outputs = headerOf s / 2 ^ 20 % 4 + 1;
       rows = headerOf s / 2 ^ 15 % 32;
-      numerator = headerOf s / 2 ^ 10 % 32;
-      denominator = headerOf s / 2 ^ 5 % 32;
+      df = headerOf s / 2 ^ 10 % 32;
+      dg = headerOf s / 2 ^ 5 % 32;
       errors = headerOf s / 2 % 16;
     }
 
@@ -27,13 +27,13 @@ jobLengthOf b = 3 + 2 * b .rows * (1 + b .outputs)
 
 -- the rows that refusal 4 asks for: df + dg + 2 × E + 1
 abbrev pub rowsNeededOf : Bounds → ℕ
-rowsNeededOf b = b .numerator + b .denominator + 2 * b .errors + 1
+rowsNeededOf b = b .df + b .dg + 2 * b .errors + 1
 
 -- what fits the header's fields
 pub record Narrow (b : Bounds) : Type 0 where
   pub outputs-least : 1 ≤ b .outputs
   pub outputs-most : b .outputs ≤ 4
   pub rows-most : b .rows ≤ 31
-  pub numerator-most : b .numerator ≤ 31
-  pub denominator-most : b .denominator ≤ 31
+  pub df-most : b .df ≤ 31
+  pub dg-most : b .dg ≤ 31
   pub errors-most : b .errors ≤ 15

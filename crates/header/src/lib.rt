@@ -27,17 +27,17 @@ pub fn read_header(s: &[u8]) -> Header
     let code = start.take(s, 2);
     let outputs = code.next.take(s, 2);
     let rows = outputs.next.take(s, 5);
-    let numerator = rows.next.take(s, 5);
-    let denominator = numerator.next.take(s, 5);
-    let errors = denominator.next.take(s, 4);
+    let df = rows.next.take(s, 5);
+    let dg = df.next.take(s, 5);
+    let errors = dg.next.take(s, 4);
     let spare = errors.next.take(s, 1);
     let prime = field::prime_of_code(code.value);
     let bounds = Bounds {
         prime: prime,
         outputs: size(outputs.value) + 1,
         rows: size(rows.value),
-        numerator: size(numerator.value),
-        denominator: size(denominator.value),
+        df: size(df.value),
+        dg: size(dg.value),
         errors: size(errors.value),
     };
     Header {
@@ -59,5 +59,5 @@ pub fn rows_needed(b: Bounds) -> usize
     requires { ⌜ Narrow b ⌝ }
     ensures { λ r. ⌜ r ≡ rowsNeededOf b ⌝ }
 {
-    b.numerator + b.denominator + 2 * b.errors + 1
+    b.df + b.dg + 2 * b.errors + 1
 }

@@ -10,7 +10,7 @@ use Rattle.field.specs.Primes.{modulusOf}
 use Rattle.format.specs.declared.Bounds.{Bounds}
 use Rattle.row_search.specs.declared.Found.{Found}
 use Rattle.header.specs.Header.{boundsOf}
-use Rattle.rows.specs.Rows.{pointsOf, valuesOf}
+use Rattle.rows.specs.Rows.{jobPoints, jobValues}
 use Rattle.job.specs.Refusals.{outOfRange, repeatedPoint}
 use Rattle.row_search.specs.Search.{firstBelow, anyBelow, isFound}
 use Rattle.row_search.proofs.FirstBelow.{first-cong}
@@ -19,8 +19,8 @@ use Rattle.rows.proofs.Entries.{points-at, values-at}
 module _ (s : List ℕ) where
   out-of-range-same : firstBelow (boundsOf s .rows)
       (λ r.
-      leb (modulusOf (boundsOf s .prime)) (getD (pointsOf s) r 0)
-      || anyBelow (boundsOf s .outputs) (λ i. leb (modulusOf (boundsOf s .prime)) (getD (valuesOf s) (r * 4 + i) 0)))
+      leb (modulusOf (boundsOf s .prime)) (getD (jobPoints s) r 0)
+      || anyBelow (boundsOf s .outputs) (λ i. leb (modulusOf (boundsOf s .prime)) (getD (jobValues s) (r * 4 + i) 0)))
       ≡ firstBelow (boundsOf s .rows) (outOfRange s)
   out-of-range-same =
       let p = modulusOf (boundsOf s .prime) in
@@ -28,15 +28,15 @@ module _ (s : List ℕ) where
       ap₂ _||_ (ap (leb p) (points-at s r l))
       (ap isFound (first-cong (boundsOf s .outputs) _ _ (λ i m. ap (leb p) (values-at s r i l m))))
 
-  repeated-same : firstBelow (boundsOf s .rows) (λ r. anyBelow r (λ q. eqb (getD (pointsOf s) q 0) (getD (pointsOf s) r 0)))
+  repeated-same : firstBelow (boundsOf s .rows) (λ r. anyBelow r (λ q. eqb (getD (jobPoints s) q 0) (getD (jobPoints s) r 0)))
       ≡ firstBelow (boundsOf s .rows) (repeatedPoint s)
   repeated-same =
       first-cong (boundsOf s .rows) _ _ λ r l.
       ap isFound (first-cong r _ _ (λ q m. ap₂ eqb (points-at s q (omega arith)) (points-at s r l)))
 
-  module _ {b : Bounds} {points : List ℕ} (bounds : b ≡ boundsOf s) (rows : points ≡ pointsOf s) where
+  module _ {b : Bounds} {points : List ℕ} (bounds : b ≡ boundsOf s) (rows : points ≡ jobPoints s) where
     -- the same with what the code has at hand
-    pub first-out-of-range : {values : List ℕ} {p : ℕ} {f : Found} → values ≡ valuesOf s → p ≡ modulusOf (b .prime)
+    pub first-out-of-range : {values : List ℕ} {p : ℕ} {f : Found} → values ≡ jobValues s → p ≡ modulusOf (b .prime)
         → f ≡ firstBelow (b .rows) (λ r. leb p (getD points r 0) || anyBelow (b .outputs) (λ i. leb p (getD values (r * 4 + i) 0)))
         → f ≡ firstBelow (boundsOf s .rows) (outOfRange s)
     first-out-of-range v e h = h ∙ simp (e, bounds, rows, v) out-of-range-same

@@ -21,7 +21,7 @@ use Rattle.header.proofs.Fields.{narrow}
 use Rattle.row_search.specs.declared.Found.{Found}
 use Rattle.row_search.specs.declared.Found.the-variants.{At, Nothing}
 use Rattle.row_search.specs.Search.{firstBelow, ifHolds, isFound}
-use Rattle.rows.specs.Rows.{pointOf, valueOf}
+use Rattle.rows.specs.Rows.{jobPoint, jobValue}
 use Rattle.rows.proofs.Order.{lt-or-ge}
 use Rattle.row_search.proofs.FirstBelow.{at-not-nothing, none-passes, any-passes, none-below}
 use Rattle.job.proofs.Deciding.{past-4, accepted}
@@ -47,22 +47,22 @@ module _ (s : List ℕ) (not-5 : firstBelow (boundsOf s .rows) (outOfRange s) �
   in-range : (r : ℕ) → r < boundsOf s .rows → outOfRange s r ≡ false
   in-range = none-passes (outOfRange s) (boundsOf s .rows) not-5
 
-  pub points-below : (r : ℕ) → r < boundsOf s .rows → pointOf s r < modulusOf (boundsOf s .prime)
+  pub points-below : (r : ℕ) → r < boundsOf s .rows → jobPoint s r < modulusOf (boundsOf s .prime)
   points-below r l = leb-false _ _ (or-false _ _ (in-range r l) .0)
 
-  pub values-below : (r i : ℕ) → r < boundsOf s .rows → i < boundsOf s .outputs → valueOf s r i < modulusOf (boundsOf s .prime)
+  pub values-below : (r i : ℕ) → r < boundsOf s .rows → i < boundsOf s .outputs → jobValue s r i < modulusOf (boundsOf s .prime)
   values-below r i l m =
       let p = modulusOf (boundsOf s .prime) in
       leb-false _ _
-      (any-passes (λ j. leb p (valueOf s r j)) (boundsOf s .outputs) (or-false (leb p (pointOf s r)) _ (in-range r l) .1) i m)
+      (any-passes (λ j. leb p (jobValue s r j)) (boundsOf s .outputs) (or-false (leb p (jobPoint s r)) _ (in-range r l) .1) i m)
 
 module _ (s : List ℕ) (not-6 : firstBelow (boundsOf s .rows) (repeatedPoint s) ≡ Nothing) where
-  earlier-differs : (q r : ℕ) → q < r → r < boundsOf s .rows → pointOf s q ≡ pointOf s r → ⊥
+  earlier-differs : (q r : ℕ) → q < r → r < boundsOf s .rows → jobPoint s q ≡ jobPoint s r → ⊥
   earlier-differs q r l m =
       eqb-false _ _
-      (any-passes (λ k. eqb (pointOf s k) (pointOf s r)) r (none-passes (repeatedPoint s) (boundsOf s .rows) not-6 r m) q l)
+      (any-passes (λ k. eqb (jobPoint s k) (jobPoint s r)) r (none-passes (repeatedPoint s) (boundsOf s .rows) not-6 r m) q l)
 
-  pub points-distinct : (q r : ℕ) → q < boundsOf s .rows → r < boundsOf s .rows → pointOf s q ≡ pointOf s r → q ≡ r
+  pub points-distinct : (q r : ℕ) → q < boundsOf s .rows → r < boundsOf s .rows → jobPoint s q ≡ jobPoint s r → q ≡ r
   points-distinct q r l m e = distinct (lt-or-ge q r)
     where
       distinct : (q < r) ⊎ (r ≤ q) → q ≡ r
@@ -75,9 +75,9 @@ pub record WellFormedFacts (s : List ℕ) (area : ℕ) : Type 0 where
   pub spare-bit : spareBitOf s ≡ 0
   pub byte-count : length s ≡ jobLengthOf (boundsOf s)
   pub enough-rows : rowsNeededOf (boundsOf s) ≤ boundsOf s .rows
-  pub points-in-range : (r : ℕ) → r < boundsOf s .rows → pointOf s r < modulusOf (boundsOf s .prime)
-  pub values-in-range : (r i : ℕ) → r < boundsOf s .rows → i < boundsOf s .outputs → valueOf s r i < modulusOf (boundsOf s .prime)
-  pub distinct : (q r : ℕ) → q < boundsOf s .rows → r < boundsOf s .rows → pointOf s q ≡ pointOf s r → q ≡ r
+  pub points-in-range : (r : ℕ) → r < boundsOf s .rows → jobPoint s r < modulusOf (boundsOf s .prime)
+  pub values-in-range : (r i : ℕ) → r < boundsOf s .rows → i < boundsOf s .outputs → jobValue s r i < modulusOf (boundsOf s .prime)
+  pub distinct : (q r : ℕ) → q < boundsOf s .rows → r < boundsOf s .rows → jobPoint s q ≡ jobPoint s r → q ≡ r
   pub enough-area : answerLengthOf (boundsOf s) ≤ area
 
 refused-not-accepted : {reason : Reason} {row : ℕ} → Refused reason row ≡ Accepted → ⊥
@@ -122,12 +122,12 @@ module _ (s : List ℕ) (area : ℕ) where
   facts-well-formed h =
       let in-range : (r : ℕ) → r < boundsOf s .rows → outOfRange s r ≡ false =
       λ r l. ap₂ _||_ (lt-leb _ _ (h .points-in-range r l))
-      (ap isFound (none-below (λ i. leb (modulusOf (boundsOf s .prime)) (valueOf s r i)) _ (λ i m. lt-leb _ _ (h .values-in-range r i l m)))) in
+      (ap isFound (none-below (λ i. leb (modulusOf (boundsOf s .prime)) (jobValue s r i)) _ (λ i m. lt-leb _ _ (h .values-in-range r i l m)))) in
       let new-point : (r : ℕ) → r < boundsOf s .rows → repeatedPoint s r ≡ false =
-      λ r l. ap isFound (none-below (λ q. eqb (pointOf s q) (pointOf s r)) r (λ q m. ne-eqb _ _ (later q r m l))) in
+      λ r l. ap isFound (none-below (λ q. eqb (jobPoint s q) (jobPoint s r)) r (λ q m. ne-eqb _ _ (later q r m l))) in
       past-4 s area (le-ltb (length s) 3 (omega (arith, h .byte-count))) (ne-eqb (spareBitOf s) 1 (λ e. omega (arith, h .spare-bit, e)))
       (ap not (eq-eqb _ _ (h .byte-count))) (le-ltb _ _ (h .enough-rows))
       ∙ accepted s area (none-below (outOfRange s) _ in-range) (none-below (repeatedPoint s) _ new-point) (le-ltb _ _ (h .enough-area))
     where
-      later : (q r : ℕ) → q < r → r < boundsOf s .rows → pointOf s q ≡ pointOf s r → ⊥
+      later : (q r : ℕ) → q < r → r < boundsOf s .rows → jobPoint s q ≡ jobPoint s r → ⊥
       later q r m l e = let same = h .distinct q r (omega arith) l e in omega arith

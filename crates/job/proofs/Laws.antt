@@ -18,9 +18,9 @@ use Rattle.header.proofs.Fields.{narrow, rows-bytes}
 use Rattle.row_search.specs.declared.Found.{Found}
 use Rattle.row_search.specs.declared.Found.the-variants.{At, Nothing}
 use Rattle.row_search.specs.Search.{firstBelow}
-use Rattle.rows.specs.Rows.{pointOf}
+use Rattle.rows.specs.Rows.{jobPoint}
 use Rattle.job.specs.Refusals.{tooShort, spareBitIsOne, byteCountDiffers, tooFewRows, outOfRange, repeatedPoint, outcomeOfRows, outcomeOf, WellFormed}
-use Rattle.job.specs.Answer.{readingWith, readingOf}
+use Rattle.job.specs.Reading.{readingWith, readingOf}
 use Rattle.job.proofs.Deciding.{at-4, at-5, at-6, past-4}
 use Rattle.job.proofs.Facts.{well-formed-facts, points-below, points-distinct}
 use Rattle.job.proofs.Pigeonhole.{pigeonhole}
@@ -34,7 +34,7 @@ module _ (s : List ℕ) (area : ℕ) where
   pub answer-length-most : WellFormed s area → answerLengthOf (boundsOf s) ≤ 254
   answer-length-most h =
       let f = well-formed-facts s area h in
-      let n = mul-le-mul-right {n = 4} (boundsOf s .numerator + 1) (narrow s .outputs-most) in
+      let n = mul-le-mul-right {n = 4} (boundsOf s .df + 1) (narrow s .outputs-most) in
       omega (arith, f .enough-rows, narrow s .rows-most)
 
   -- "A job of three bytes with L = 0 and spare bit 0 meets 4."
@@ -57,7 +57,7 @@ module _ (s : List ℕ) (area : ℕ) where
           → ((r : ℕ) × (outcomeOf s area ≡ Refused OutOfRange r)) ⊎ ((r : ℕ) × (outcomeOf s area ≡ Refused RepeatedPoint r))
       six n5 (At r) e = inr (r, past ∙ at-6 s area n5 e)
       six n5 Nothing e =
-          absurd (let h = pigeonhole (boundsOf s .rows) (modulusOf (boundsOf s .prime)) (pointOf s) (points-below s n5) (points-distinct s e) in omega arith)
+          absurd (let h = pigeonhole (boundsOf s .rows) (modulusOf (boundsOf s .prime)) (jobPoint s) (points-below s n5) (points-distinct s e) in omega arith)
 
       five : (f : Found) → firstBelow (boundsOf s .rows) (outOfRange s) ≡ f
           → ((r : ℕ) × (outcomeOf s area ≡ Refused OutOfRange r)) ⊎ ((r : ℕ) × (outcomeOf s area ≡ Refused RepeatedPoint r))

@@ -15,7 +15,7 @@ use Rattle.row_search.specs.declared.Found.{Found}
 use Rattle.row_search.specs.declared.Found.the-variants.{At, Nothing}
 use Rattle.row_search.specs.Search.{ifHolds, firstBelow, anyBelow}
 use Rattle.header.specs.Header.{boundsOf, spareBitOf, jobLengthOf, rowsNeededOf}
-use Rattle.rows.specs.Rows.{pointOf, valueOf}
+use Rattle.rows.specs.Rows.{jobPoint, jobValue}
 
 -- 1: "fewer than 3 bytes"
 abbrev pub tooShort : List ℕ → Bool
@@ -36,12 +36,12 @@ tooFewRows s = ltb (boundsOf s .rows) (rowsNeededOf (boundsOf s))
 -- 5: in row r "a point or value is p or more"
 abbrev pub outOfRange : List ℕ → ℕ → Bool
 outOfRange s r =
-    leb (modulusOf (boundsOf s .prime)) (pointOf s r)
-    || anyBelow (boundsOf s .outputs) (λ i. leb (modulusOf (boundsOf s .prime)) (valueOf s r i))
+    leb (modulusOf (boundsOf s .prime)) (jobPoint s r)
+    || anyBelow (boundsOf s .outputs) (λ i. leb (modulusOf (boundsOf s .prime)) (jobValue s r i))
 
 -- 6: the point of row r "stands in an earlier row"
 abbrev pub repeatedPoint : List ℕ → ℕ → Bool
-repeatedPoint s r = anyBelow r (λ q. eqb (pointOf s q) (pointOf s r))
+repeatedPoint s r = anyBelow r (λ q. eqb (jobPoint s q) (jobPoint s r))
 
 -- 7: "answer area shorter than the sheet needs"
 abbrev pub areaTooShort : List ℕ → ℕ → Bool

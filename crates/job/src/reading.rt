@@ -3,7 +3,7 @@ ghost use mathlib.Core.Path.{_≡_};
 ghost use lib.ListN.{length};
 ghost use Rattle.header.specs.Header.{boundsOf, jobLengthOf, Narrow};
 ghost use Rattle.job.specs.Refusals.{outcomeOfRows};
-ghost use Rattle.job.specs.Answer.{refusedReading, readingWith, readingOf};
+ghost use Rattle.job.specs.Reading.{refusedReading, readingWith, readingOf};
 use field::Prime;
 use format::Bounds;
 use format::Outcome;
@@ -36,8 +36,8 @@ fn refused(reason: Reason, row: u32) -> Reading
         prime: Prime::P7,
         outputs: 0,
         rows: 0,
-        numerator: 0,
-        denominator: 0,
+        df: 0,
+        dg: 0,
         errors: 0,
     };
     let points = [0u32; 32];

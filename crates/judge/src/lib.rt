@@ -61,7 +61,7 @@ pub fn wrong_rows(b: Bounds, points: [u32; 32], values: [u32; 128], g: Poly, f: 
     let n = b.outputs;
     let forms = evaluation::forms(q, &points, rows);
     let xs = forms.v;
-    let denominators = evaluation::values(q, &xs, rows, b.denominator + 1, g);
+    let denominators = evaluation::values(q, &xs, rows, b.dg + 1, g);
     let gs = denominators.v;
     let mut word: u32 = 0;
     for i in 0..n {

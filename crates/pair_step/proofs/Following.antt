@@ -1,6 +1,6 @@
 -- The pairs that arrays hold after a step, and that the discrepancies follow them.
 use mathlib.Core.Path.{_≡_, refl, sym, ap, ap₂, _∙_}
-use mathlib.Core.Bool.{Bool, true, false, not}
+use mathlib.Core.Bool.{Bool, true, false, not, cond}
 use mathlib.Core.List.{List}
 use Prim.Native.Nat.{ℕ, _+_, _-_, _*_, _%_, _≤_, _<_}
 use native.Mathlib.Decide.{decLt}
@@ -15,7 +15,7 @@ use Rattle.poly.proofs.Lists.{at-past, bounded-zeros}
 use Rattle.lanes.proofs.Changes.{splat}
 use Rattle.evaluation.specs.Values.{Narrow}
 use Rattle.pairs.specs.declared.Pair.{Pair}
-use Rattle.pairs.specs.Pairs.{Pairs, PairShort, choose, discrepancyOf, advancedOf, combinedOf, stepBy, startOf}
+use Rattle.pairs.specs.Pairs.{Pairs, PairShort, discrepancyOf, advancedOf, combinedOf, stepBy, startOf}
 use Rattle.pairs.proofs.PairLaws.{pair-is, bounded-one, Reached, reached-step}
 use Rattle.pairs.proofs.Discrepancies.{discrepancy-advanced, discrepancy-combined, discrepancy-first, discrepancy-second}
 use Rattle.pair_step.proofs.Arrays.{held-mono, bounded-held}
@@ -96,8 +96,8 @@ start-kept {p} points z d rows A B {s} few l es ed = (
 
 -- both lines together are a step
 lines-step : (t0 t1 t : Bool) (s0 m0 c0 s1 m1 c1 : Pair)
-    → pairsOf (choose t0 s0 (choose t1 m0 (choose t m0 c0))) (choose t1 s1 (choose t0 m1 (choose (not t) m1 c1)))
-    ≡ choose t0 (choose t1 (pairsOf s0 s1) (pairsOf s0 m1)) (choose t1 (pairsOf m0 s1) (choose t (pairsOf m0 c1) (pairsOf c0 m1)))
+    → pairsOf (cond t0 s0 (cond t1 m0 (cond t m0 c0))) (cond t1 s1 (cond t0 m1 (cond (not t) m1 c1)))
+    ≡ cond t0 (cond t1 (pairsOf s0 s1) (pairsOf s0 m1)) (cond t1 (pairsOf m0 s1) (cond t (pairsOf m0 c1) (pairsOf c0 m1)))
 lines-step true true t s0 m0 c0 s1 m1 c1 = refl
 lines-step true false t s0 m0 c0 s1 m1 c1 = refl
 lines-step false true t s0 m0 c0 s1 m1 c1 = refl

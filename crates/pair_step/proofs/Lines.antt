@@ -1,6 +1,6 @@
 -- The lines of METHOD's table: what the code does in each of its cases is a step.
 use mathlib.Core.Path.{_≡_, refl, _∙_}
-use mathlib.Core.Bool.{Bool, true, false}
+use mathlib.Core.Bool.{Bool, true, false, cond}
 use mathlib.Core.List.{List}
 use mathlib.Core.Logic.{_⊎_, inl, inr}
 use Prim.Native.Nat.{ℕ, _+_, _≤_, _<_}
@@ -9,14 +9,13 @@ use native.Mathlib.Omega.{arith}
 use lib.Dec.{eqb}
 use borrow.Author.Tests.{eq-eqb, ne-eqb, lt-ltb, le-ltb}
 use Rattle.poly.specs.Coefficients.{at}
-use Rattle.pairs.specs.Pairs.{choose}
 use Rattle.pair_step.specs.declared.Row.{Row}
 use Rattle.pair_step.specs.declared.Side.{Side}
 use Rattle.pair_step.specs.Held.{Fits, Held, longerOf, Advanced, Cleared, Stays, Freed, lineOf, Lined}
 use Rattle.pair_step.proofs.Arrays.{held-mono}
 use Rattle.pair_step.proofs.Following.{advanced-is, combined-is, follow-advanced, follow-cleared}
 
-either : {A : Type 0} (t : Bool) (x : A) → x ≡ choose t x x
+either : {A : Type 0} (t : Bool) (x : A) → x ≡ cond t x x
 either true x = refl
 either false x = refl
 

@@ -13,7 +13,7 @@ use Rattle.poly.specs.Operations.{timesLinearOf, combinationAt, combinationOf}
 use Rattle.lanes.specs.Lanes.{groupsOf, replaced, combinedLane, differenceLane}
 use Rattle.evaluation.specs.Values.{Narrow}
 use Rattle.pairs.specs.declared.Pair.{Pair}
-use Rattle.pairs.specs.Pairs.{Pairs, choose, discrepancyOf, advancedOf, combinedOf}
+use Rattle.pairs.specs.Pairs.{Pairs, discrepancyOf, advancedOf, combinedOf}
 use Rattle.pair_step.specs.declared.Side.{Side}
 use Rattle.pair_step.specs.declared.Sides.{Sides}
 use Rattle.pair_step.specs.declared.Row.{Row}
@@ -129,7 +129,7 @@ Kept p points z «from» rows s d = (l : ℕ) → «from» ≤ l → l < rows �
 -- METHOD's table for one of the pairs, by its own discrepancy m at the row and that of the other pair, c, and by whether it leads: it stays,
 -- is multiplied by (u - x), or is combined with the other
 unfoldable pub lineOf : {A : Type 0} → (m c : ℕ) (leads : Bool) (stays multiplied combined : A) → A
-lineOf m c leads stays multiplied combined = choose (eqb m 0) stays (choose (eqb c 0) multiplied (choose leads multiplied combined))
+lineOf m c leads stays multiplied combined = cond (eqb m 0) stays (cond (eqb c 0) multiplied (cond leads multiplied combined))
 
 -- One of the pairs, (a, b) with its discrepancies d, beside the other, (s, t) with e, and by whether it leads where both have a discrepancy:
 -- METHOD's line for it; its number, its length and the entries written, and every entry of its discrepancies; and at the row and behind it

@@ -1,6 +1,6 @@
 -- Laws of the pairs that the proofs of the loop share.
 use mathlib.Core.Path.{_≡_, sym, ap, ap₂, subst, _∙_}
-use mathlib.Core.Bool.{Bool, true, false}
+use mathlib.Core.Bool.{Bool, true, false, cond}
 use mathlib.Core.List.{List}
 use Prim.Native.Nat.{ℕ, zero, suc, _+_, _≤_, _<_}
 use native.Mathlib.Numerals.{add-one}
@@ -13,7 +13,7 @@ use Rattle.poly.specs.Coefficients.{at, Bounded}
 use Rattle.poly.specs.Vectors.{onePoly, zeroPoly}
 use Rattle.poly.proofs.Lists.{at-zeros, bounded-mono, bounded-zeros}
 use Rattle.pairs.specs.declared.Pair.{Pair}
-use Rattle.pairs.specs.Pairs.{Pairs, PairBounded, PairsBounded, advancedOf, combinedOf, choose, stepBy, startOf, stepOf, pairsAfter, discrepancyOf, smallerOf}
+use Rattle.pairs.specs.Pairs.{Pairs, PairBounded, PairsBounded, advancedOf, combinedOf, stepBy, startOf, pairsStep, pairsAfter, discrepancyOf, smallerOf}
 
 -- a pair by its two coefficient lists
 pub pair-is : (a b : Poly) (e : ℕ) {la lb : List ℕ} → a .c ≡ la → b .c ≡ lb
@@ -24,7 +24,7 @@ pub pair-mono : {p n m : ℕ} {s : Pair} → PairBounded p n s → n ≤ m → P
 pair-mono h l = record { left = bounded-mono (h .left) l; right = bounded-mono (h .right) l }
 
 -- the numbers rise by at most 1
-choose-most : {A : Type 0} (size : A → ℕ) (t : Bool) (a b : A) (n : ℕ) → size a ≤ n → size b ≤ n → size (choose t a b) ≤ n
+choose-most : {A : Type 0} (size : A → ℕ) (t : Bool) (a b : A) (n : ℕ) → size a ≤ n → size b ≤ n → size (cond t a b) ≤ n
 choose-most size true a b n ha hb = ha
 choose-most size false a b n ha hb = hb
 
@@ -128,10 +128,10 @@ reached-start p points z A B s l e =
     }
 
 pub reached-step : {p : ℕ} {points z : List ℕ} {A B k n : ℕ} {s : Pairs} → Reached p points z A B k n s → (r : Pairs) (m : ℕ)
-    → r ≡ stepOf p (getD points k 0) (getD z k 0) s → m ≤ k + 1 + 1 → PairsBounded p m r → Reached p points z A B (k + 1) m r
+    → r ≡ pairsStep p (getD points k 0) (getD z k 0) s → m ≤ k + 1 + 1 → PairsBounded p m r → Reached p points z A B (k + 1) m r
 unfolding pairsAfter
 reached-step {p} {points} {z} {A} {B} {k} {n} {s} h r m e l b = record {
-  same = e ∙ ap (stepOf p (getD points k 0) (getD z k 0)) (h .same) ∙ ap (pairsAfter p points z A B) (sym (add-one k));
+  same = e ∙ ap (pairsStep p (getD points k 0) (getD z k 0)) (h .same) ∙ ap (pairsAfter p points z A B) (sym (add-one k));
   low = l;
   bounded = b;
   first-low = omega (arith, ap first-number e, first-rises p x d0 d1 s, h .first-low);

@@ -1,6 +1,6 @@
 -- The two pairs of polynomials, row by row, as the code makes them.
 use mathlib.Core.Path.{_≡_}
-use mathlib.Core.Bool.{Bool, true, false}
+use mathlib.Core.Bool.{Bool, true, false, cond}
 use mathlib.Core.List.{List}
 use Prim.Native.Nat.{ℕ, zero, suc, _+_, _-_, _*_, _%_, _≤_, _<_}
 use lib.Dec.{eqb, leb}
@@ -54,22 +54,18 @@ combinedOf p d s c t =
       e = s .e;
     }
 
-abbrev pub choose : {A : Type 0} → Bool → A → A → A
-choose true a b = a
-choose false a b = b
-
 -- one row (x, z), where d0 and d1 are the pairs' discrepancies
 unfoldable pub stepBy : ℕ → ℕ → ℕ → ℕ → Pairs → Pairs
 stepBy p x d0 d1 s =
-    choose (eqb d0 0)
-    (choose (eqb d1 0) s (record { first = s .first; second = advancedOf p x (s .second) }))
-    (choose (eqb d1 0) (record { first = advancedOf p x (s .first); second = s .second })
-    (choose (leb (s .first .e) (s .second .e))
+    cond (eqb d0 0)
+    (cond (eqb d1 0) s (record { first = s .first; second = advancedOf p x (s .second) }))
+    (cond (eqb d1 0) (record { first = advancedOf p x (s .first); second = s .second })
+    (cond (leb (s .first .e) (s .second .e))
     (record { first = advancedOf p x (s .first); second = combinedOf p d0 (s .second) d1 (s .first) })
     (record { first = combinedOf p d1 (s .first) d0 (s .second); second = advancedOf p x (s .second) })))
 
-abbrev pub stepOf : ℕ → ℕ → ℕ → Pairs → Pairs
-stepOf p x z s = stepBy p x (discrepancyOf p x z (s .first)) (discrepancyOf p x z (s .second)) s
+abbrev pub pairsStep : ℕ → ℕ → ℕ → Pairs → Pairs
+pairsStep p x z s = stepBy p x (discrepancyOf p x z (s .first)) (discrepancyOf p x z (s .second)) s
 
 -- before the first row: (1, 0) and (0, 1), with the numbers B and A
 unfoldable pub startOf : ℕ → ℕ → Pairs
@@ -78,11 +74,11 @@ startOf A B = record { first = record { a = onePoly; b = zeroPoly; e = B }; seco
 -- after k rows with these points and z's
 unfoldable pub pairsAfter : ℕ → List ℕ → List ℕ → ℕ → ℕ → ℕ → Pairs
 pairsAfter p points z A B zero = startOf A B
-pairsAfter p points z A B (suc k) = stepOf p (getD points k 0) (getD z k 0) (pairsAfter p points z A B k)
+pairsAfter p points z A B (suc k) = pairsStep p (getD points k 0) (getD z k 0) (pairsAfter p points z A B k)
 
 -- the pair with the smaller number, the first of equal ones
 unfoldable pub smallerOf : Pairs → Pair
-smallerOf s = choose (leb (s .first .e) (s .second .e)) (s .first) (s .second)
+smallerOf s = cond (leb (s .first .e) (s .second .e)) (s .first) (s .second)
 
 -- what is left of the first k rows
 abbrev pub solutionOf : ℕ → List ℕ → List ℕ → ℕ → ℕ → ℕ → Pair

@@ -12,7 +12,7 @@ use Rattle.format.specs.declared.Outcome.the-variants.{Accepted, Recovered, Ref
 use Rattle.header.specs.Header.{boundsOf}
 use Rattle.header.proofs.Fields.{narrow}
 use Rattle.job.specs.Refusals.{outcomeOf}
-use Rattle.job.specs.Answer.{readingWith, readingOf}
+use Rattle.job.specs.Reading.{readingWith, readingOf}
 use Rattle.answer.specs.Bytes.{overwritten}
 use Rattle.recovery.specs.Recovery.{Settled}
 use Rattle.text.specs.declared.Written.{Written}
@@ -28,7 +28,7 @@ reading-storable s room = by-outcome (outcomeOf s room)
     by-outcome : (outcome : Outcome) → isStorable (readingWith outcome s .bounds) ≡ true
     by-outcome Accepted =
         let fields = narrow s in
-        true-storable (boundsOf s) (record { few = fields .outputs-most; denominator-low = fields .denominator-most; numerators-low = λ i. fields .numerator-most })
+        true-storable (boundsOf s) (record { few = fields .outputs-most; denominator-low = fields .dg-most; numerators-low = λ i. fields .df-most })
     by-outcome (Recovered bytes wrong) = refl
     by-outcome (Refused reason row) = refl
 

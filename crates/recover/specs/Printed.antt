@@ -4,7 +4,7 @@ use mathlib.Core.Path.{_≡_}
 use mathlib.Core.List.{List}
 use lib.ListN.{length}
 use Rattle.format.specs.declared.Outcome.{Outcome}
-use Rattle.job.specs.Answer.{readingOf}
+use Rattle.job.specs.Reading.{readingOf}
 use Rattle.answer.specs.Bytes.{overwritten}
 use Rattle.recovery.specs.Recovery.{Settled}
 use Rattle.text.specs.Text.{textOf}

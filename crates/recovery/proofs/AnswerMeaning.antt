@@ -14,21 +14,21 @@ use Rattle.poly.specs.Operations.{valueOf}
 use Rattle.poly.proofs.Values.{value-below}
 use Rattle.poly_meaning.proofs.Series.{series-at, series-below, residue-mod, residue-zero, value-means-bounded}
 use Rattle.header.specs.Header.{boundsOf}
-use Rattle.rows.specs.Rows.{pointOf, valueOf as valueAt, pointsOf, valuesOf}
+use Rattle.rows.specs.Rows.{jobPoint, jobValue, jobPoints, jobValues}
 use Rattle.rows.proofs.Entries.{points-at, values-at}
 use Rattle.job.proofs.Facts.{WellFormedFacts}
 use Rattle.word.specs.Word.{flagOf, countBelow}
 use Rattle.judge.proofs.Rows.{right-all, all-right}
 use Rattle.soundness.proofs.Candidates.{P, R, F, poly, evaluation, problem}
-use Rattle.recovery.specs.Answers.{primeOf, wrongAt, Within, Answer}
+use Rattle.recovery.specs.Answers.{jobPrime, wrongAt, Within, Answer}
 use Rattle.recovery.proofs.Coprime.{coprime-means, means-coprime}
 
 module _ (s : List ℕ) {area : ℕ} (W : WellFormedFacts s area) where
   abbrev T : Problem (R (boundsOf s))
-  T = problem (boundsOf s) (pointsOf s) (valuesOf s)
+  T = problem (boundsOf s) (jobPoints s) (jobValues s)
 
   abbrev p : ℕ
-  p = primeOf s
+  p = jobPrime s
 
   abbrev ρ : ℕ → Residue p (P (boundsOf s))
   ρ = residue p (P (boundsOf s))
@@ -38,7 +38,7 @@ module _ (s : List ℕ) {area : ℕ} (W : WellFormedFacts s area) where
 
   -- the rows, as the code holds them
   abbrev pub row : ℕ → Evaluation (R (boundsOf s))
-  row = evaluation (boundsOf s) (pointsOf s) (valuesOf s)
+  row = evaluation (boundsOf s) (jobPoints s) (jobValues s)
 
   module _ {f : ℕ → List ℕ} {g : List ℕ} (within : Within s f g) where
     abbrev pub fs : ℕ → Series (R (boundsOf s))
@@ -48,10 +48,10 @@ module _ (s : List ℕ) {area : ℕ} (W : WellFormedFacts s area) where
     gs = poly (boundsOf s) g
 
     value-f : (i : ℕ) → i < boundsOf s .outputs → (x : ℕ) → ρ (valueOf p x (f i)) ≡ value (R (boundsOf s)) 32 (fs i) (ρ x)
-    value-f i li x = value-means-bounded p (P (boundsOf s)) 32 x (within .numerators i li) (let n = W .fields .numerator-most in omega arith)
+    value-f i li x = value-means-bounded p (P (boundsOf s)) 32 x (within .numerators i li) (let n = W .fields .df-most in omega arith)
 
     pub value-g : (x : ℕ) → ρ (valueOf p x g) ≡ value (R (boundsOf s)) 32 gs (ρ x)
-    value-g x = value-means-bounded p (P (boundsOf s)) 32 x (within .denominator) (let n = W .fields .denominator-most in omega arith)
+    value-g x = value-means-bounded p (P (boundsOf s)) 32 x (within .denominator) (let n = W .fields .dg-most in omega arith)
 
     -- the right side of a row's condition
     right-side : (x y : ℕ) → ρ (valueOf p x g * y % p) ≡ R (boundsOf s) .mul (value (R (boundsOf s)) 32 gs (ρ x)) (ρ y)
@@ -60,19 +60,19 @@ module _ (s : List ℕ) {area : ℕ} (W : WellFormedFacts s area) where
     pub right-means : (r : ℕ) → r < boundsOf s .rows → wrongAt s f g r ≡ false → Right (F (boundsOf s)) 32 (boundsOf s .outputs) fs gs (row r)
     right-means r lr e i li =
         rw (points-at s r lr, values-at s r i lr li)
-        (sym (value-f i li (pointOf s r)) ∙ ap ρ (right-all p (pointOf s r) (valueAt s r) f g (boundsOf s .outputs) e i li) ∙ right-side (pointOf s r) (valueAt s r i))
+        (sym (value-f i li (jobPoint s r)) ∙ ap ρ (right-all p (jobPoint s r) (jobValue s r) f g (boundsOf s .outputs) e i li) ∙ right-side (jobPoint s r) (jobValue s r i))
 
     means-right : (r : ℕ) → r < boundsOf s .rows → Right (F (boundsOf s)) 32 (boundsOf s .outputs) fs gs (row r) → wrongAt s f g r ≡ false
-    means-right r lr h = all-right p (pointOf s r) (valueAt s r) f g (boundsOf s .outputs) equal
+    means-right r lr h = all-right p (jobPoint s r) (jobValue s r) f g (boundsOf s .outputs) equal
       where
         condition : (i : ℕ) → i < boundsOf s .outputs
-            → value (R (boundsOf s)) 32 (fs i) (ρ (pointOf s r)) ≡ R (boundsOf s) .mul (value (R (boundsOf s)) 32 gs (ρ (pointOf s r))) (ρ (valueAt s r i))
+            → value (R (boundsOf s)) 32 (fs i) (ρ (jobPoint s r)) ≡ R (boundsOf s) .mul (value (R (boundsOf s)) 32 gs (ρ (jobPoint s r))) (ρ (jobValue s r i))
         condition i li = rw (points-at s r lr, values-at s r i lr li) at (h i li)
 
-        equal : (i : ℕ) → i < boundsOf s .outputs → valueOf p (pointOf s r) (f i) ≡ valueOf p (pointOf s r) g * valueAt s r i % p
+        equal : (i : ℕ) → i < boundsOf s .outputs → valueOf p (jobPoint s r) (f i) ≡ valueOf p (jobPoint s r) g * jobValue s r i % p
         equal i li =
-            sym (mod-eq-of-lt (value-below p (pointOf s r) (f i) positive))
-            ∙ equal-residue p (P (boundsOf s)) _ _ (value-f i li (pointOf s r) ∙ condition i li ∙ sym (right-side (pointOf s r) (valueAt s r i)))
+            sym (mod-eq-of-lt (value-below p (jobPoint s r) (f i) positive))
+            ∙ equal-residue p (P (boundsOf s)) _ _ (value-f i li (jobPoint s r) ∙ condition i li ∙ sym (right-side (jobPoint s r) (jobValue s r i)))
             ∙ mod-eq-of-lt (mod-lt _ positive)
 
     pub count-means : (L : ℕ) → L ≤ boundsOf s .rows
@@ -93,7 +93,7 @@ module _ (s : List ℕ) {area : ℕ} (W : WellFormedFacts s area) where
             omega arith
 
   pub answer-means : {f : ℕ → List ℕ} {g : List ℕ} → Answer s f g
-      → MethodAnswer (F (boundsOf s)) 32 (problem (boundsOf s) (pointsOf s) (valuesOf s)) (λ i. poly (boundsOf s) (f i)) (poly (boundsOf s) g)
+      → MethodAnswer (F (boundsOf s)) 32 (problem (boundsOf s) (jobPoints s) (jobValues s)) (λ i. poly (boundsOf s) (f i)) (poly (boundsOf s) g)
   answer-means {f} {g} a = record {
     numerators-below = λ i li k l. series-below p (P (boundsOf s)) (a .within .numerators i li) k (omega arith);
     denominator-below = λ k l. series-below p (P (boundsOf s)) (a .within .denominator) k (omega arith);
@@ -107,7 +107,7 @@ module _ (s : List ℕ) {area : ℕ} (W : WellFormedFacts s area) where
   }
 
   pub means-answer : {f : ℕ → List ℕ} {g : List ℕ} → Within s f g
-      → MethodAnswer (F (boundsOf s)) 32 (problem (boundsOf s) (pointsOf s) (valuesOf s)) (λ i. poly (boundsOf s) (f i)) (poly (boundsOf s) g)
+      → MethodAnswer (F (boundsOf s)) 32 (problem (boundsOf s) (jobPoints s) (jobValues s)) (λ i. poly (boundsOf s) (f i)) (poly (boundsOf s) g)
       → Answer s f g
   means-answer {f} {g} within a = record {
     within = within;

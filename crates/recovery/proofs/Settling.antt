@@ -12,10 +12,10 @@ use Rattle.format.specs.declared.Outcome.the-variants.{Accepted, Recovered, Ref
 use Rattle.format.specs.declared.Reason.the-variants.{NoAnswer}
 use Rattle.poly.specs.Vectors.{coefficientsAt}
 use Rattle.header.specs.Header.{boundsOf}
-use Rattle.rows.specs.Rows.{pointOf, pointsOf, valuesOf}
+use Rattle.rows.specs.Rows.{jobPoint, jobPoints, jobValues}
 use Rattle.job.specs.declared.reading.Reading.{Reading}
 use Rattle.job.specs.Refusals.{outcomeOf, WellFormed}
-use Rattle.job.specs.Answer.{readingWith, readingOf}
+use Rattle.job.specs.Reading.{readingWith, readingOf}
 use Rattle.rows.proofs.Entries.{points-at, values-at}
 use Rattle.job.proofs.Facts.{WellFormedFacts, well-formed-facts}
 use Rattle.word.specs.Word.{wrongCountOf}
@@ -25,7 +25,7 @@ use Rattle.word.proofs.Marks.{count-of-word}
 use Rattle.judge.specs.Rows.{wrongRow, wrongRowAt}
 use Rattle.judge.proofs.Rows.{wrong-same}
 use Rattle.solver.specs.declared.Solution.{Solution}
-use Rattle.recovery.specs.Answers.{primeOf, wrongAt, wrongCount, Answer, Unsolvable}
+use Rattle.recovery.specs.Answers.{jobPrime, wrongAt, wrongCount, Answer, Unsolvable}
 use Rattle.recovery.specs.Recovery.{wordFor, recoveredOutcome, Settled}
 use Rattle.solver.specs.Solutions.{unsolvedSolution, wordBy, solutionFor}
 use Rattle.recovery.proofs.Settlement.{last, numerators, denominator, unsolvable-early, unsolvable-late, solved}
@@ -47,7 +47,7 @@ module _ (s area : List ℕ) where
 
   -- what an accepted job was read as
   pub reading-accepted : (r : Reading) → r ≡ readingOf s (length area) → WellFormed s (length area)
-      → r ≡ record { outcome = Accepted; bounds = boundsOf s; points = pointsOf s; values = valuesOf s }
+      → r ≡ record { outcome = Accepted; bounds = boundsOf s; points = jobPoints s; values = jobValues s }
   reading-accepted r e wf = e ∙ ap (λ o. readingWith o s) wf
 
   module _ (wf : WellFormed s (length area)) where
@@ -61,16 +61,16 @@ module _ (s area : List ℕ) where
     g = denominator s W
 
     -- a row of the arrays is wrong exactly if that row of the job is
-    same-wrong : (r : ℕ) → r < boundsOf s .rows → wrongRowAt (boundsOf s) (pointsOf s) (valuesOf s) f g r ≡ wrongAt s f g r
+    same-wrong : (r : ℕ) → r < boundsOf s .rows → wrongRowAt (boundsOf s) (jobPoints s) (jobValues s) f g r ≡ wrongAt s f g r
     same-wrong r l =
-        ap (λ x. wrongRow (primeOf s) (boundsOf s .outputs) x (λ i. getD (valuesOf s) (r * 4 + i) 0) f g) (points-at s r l)
-        ∙ wrong-same (primeOf s) (pointOf s r) (boundsOf s .outputs) f f g g (λ i li. values-at s r i l li) (λ i li k. refl) (λ k. refl)
+        ap (λ x. wrongRow (jobPrime s) (boundsOf s .outputs) x (λ i. getD (jobValues s) (r * 4 + i) 0) f g) (points-at s r l)
+        ∙ wrong-same (jobPrime s) (jobPoint s r) (boundsOf s .outputs) f f g g (λ i li. values-at s r i l li) (λ i li k. refl) (λ k. refl)
 
-    word-means : wordBy (boundsOf s) (pointsOf s) (valuesOf s) (last s W) ≡ wordFor s f g
+    word-means : wordBy (boundsOf s) (jobPoints s) (jobValues s) (last s W) ≡ wordFor s f g
     unfolding wordBy
     word-means = word-same _ _ _ same-wrong
 
-    count-means : wrongCountOf (wordBy (boundsOf s) (pointsOf s) (valuesOf s) (last s W)) ≡ wrongCount s f g
+    count-means : wrongCountOf (wordBy (boundsOf s) (jobPoints s) (jobValues s) (last s W)) ≡ wrongCount s f g
     count-means = ap wrongCountOf word-means ∙ count-of-word (boundsOf s .rows) (wrongAt s f g) (let n = W .fields .rows-most in omega arith)
 
     -- the solver's result where there is an answer
@@ -80,35 +80,35 @@ module _ (s area : List ℕ) where
     abbrev Cases : Solution → Type 0
     Cases t = ((t .outcome ≡ Refused NoAnswer 0) × Unsolvable s) ⊎ (Answer s f g × (t ≡ answered))
 
-    few : last s W .solvable ≡ true → wrongCount s f g ≤ boundsOf s .errors → Cases (solutionFor (boundsOf s) (pointsOf s) (valuesOf s))
+    few : last s W .solvable ≡ true → wrongCount s f g ≤ boundsOf s .errors → Cases (solutionFor (boundsOf s) (jobPoints s) (jobValues s))
     few e l =
         inr (
           solved s W e l,
-          sym (counted-few (boundsOf s) (pointsOf s) (valuesOf s) (last s W) refl (sym word-means) (sym word-count) l
-              ∙ judged-solvable (boundsOf s) (pointsOf s) (valuesOf s) (last s W) e),
+          sym (counted-few (boundsOf s) (jobPoints s) (jobValues s) (last s W) refl (sym word-means) (sym word-count) l
+              ∙ judged-solvable (boundsOf s) (jobPoints s) (jobValues s) (last s W) e),
         )
       where
         word-count : wrongCountOf (wordFor s f g) ≡ wrongCount s f g
         word-count = ap wrongCountOf (sym word-means) ∙ count-means
 
-    many : last s W .solvable ≡ true → boundsOf s .errors < wrongCount s f g → Cases (solutionFor (boundsOf s) (pointsOf s) (valuesOf s))
+    many : last s W .solvable ≡ true → boundsOf s .errors < wrongCount s f g → Cases (solutionFor (boundsOf s) (jobPoints s) (jobValues s))
     unfolding unsolvedSolution
     many e l =
         inl (
-          ap (λ t. t .outcome) (sym (counted-many (boundsOf s) (pointsOf s) (valuesOf s) (last s W) (omega (arith, count-means))
-              ∙ judged-solvable (boundsOf s) (pointsOf s) (valuesOf s) (last s W) e)),
+          ap (λ t. t .outcome) (sym (counted-many (boundsOf s) (jobPoints s) (jobValues s) (last s W) (omega (arith, count-means))
+              ∙ judged-solvable (boundsOf s) (jobPoints s) (jobValues s) (last s W) e)),
           unsolvable-late s W e l,
         )
 
-    none : last s W .solvable ≡ false → Cases (solutionFor (boundsOf s) (pointsOf s) (valuesOf s))
+    none : last s W .solvable ≡ false → Cases (solutionFor (boundsOf s) (jobPoints s) (jobValues s))
     unfolding unsolvedSolution
     none e =
-        inl (ap (λ t. t .outcome) (sym (judged-unsolvable (boundsOf s) (pointsOf s) (valuesOf s) (last s W) e)), unsolvable-early s W e)
+        inl (ap (λ t. t .outcome) (sym (judged-unsolvable (boundsOf s) (jobPoints s) (jobValues s) (last s W) e)), unsolvable-early s W e)
 
-    cases : Cases (solutionFor (boundsOf s) (pointsOf s) (valuesOf s))
+    cases : Cases (solutionFor (boundsOf s) (jobPoints s) (jobValues s))
     cases = by (last s W .solvable) refl (decLt (boundsOf s .errors) (wrongCount s f g))
       where
-        by : (t : Bool) → last s W .solvable ≡ t → Dec (boundsOf s .errors < wrongCount s f g) → Cases (solutionFor (boundsOf s) (pointsOf s) (valuesOf s))
+        by : (t : Bool) → last s W .solvable ≡ t → Dec (boundsOf s .errors < wrongCount s f g) → Cases (solutionFor (boundsOf s) (jobPoints s) (jobValues s))
         by false e d = none e
         by true e (yes l) = many e l
         by true e (no l) = few e (omega arith)
@@ -116,7 +116,7 @@ module _ (s area : List ℕ) where
     clash : {A : Type 0} {o : Outcome} {bytes wrong : ℕ} → o ≡ Refused NoAnswer 0 → o ≡ Recovered bytes wrong → A
     clash e e' = absurd (let z : _≡_ {A = ℕ} 0 1 = cc in omega arith)
 
-    module _ (t : Solution) (e : t ≡ solutionFor (boundsOf s) (pointsOf s) (valuesOf s)) where
+    module _ (t : Solution) (e : t ≡ solutionFor (boundsOf s) (jobPoints s) (jobValues s)) where
       pub settle-unsolved : ((bytes wrong : ℕ) → t .outcome ≡ Recovered bytes wrong → ⊥) → Settled s area (t .outcome) area
       settle-unsolved refused = by (subst Cases (sym e) cases)
         where

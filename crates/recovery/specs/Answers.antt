@@ -9,7 +9,7 @@ use Rattle.format.specs.Bounds.{numeratorBoundOf}
 use Rattle.poly.specs.Coefficients.{at, Bounded}
 use Rattle.poly.specs.Operations.{productAt}
 use Rattle.header.specs.Header.{boundsOf}
-use Rattle.rows.specs.Rows.{pointOf, valueOf}
+use Rattle.rows.specs.Rows.{jobPoint, jobValue}
 use Rattle.word.specs.Word.{countBelow}
 use Rattle.judge.specs.Rows.{wrongRow}
 
@@ -34,12 +34,12 @@ pub record Reduced (p n : ℕ) (f : ℕ → List ℕ) (g : List ℕ) : Type 0 wh
   pub coprime : Coprime p n f g
 
 -- the prime of the job s, a list of bytes
-abbrev pub primeOf : List ℕ → ℕ
-primeOf s = modulusOf (boundsOf s .prime)
+abbrev pub jobPrime : List ℕ → ℕ
+jobPrime s = modulusOf (boundsOf s .prime)
 
 -- row r of the job is wrong for f and g
 abbrev pub wrongAt : List ℕ → (ℕ → List ℕ) → List ℕ → ℕ → Bool
-wrongAt s f g r = wrongRow (primeOf s) (boundsOf s .outputs) (pointOf s r) (valueOf s r) f g
+wrongAt s f g r = wrongRow (jobPrime s) (boundsOf s .outputs) (jobPoint s r) (jobValue s r) f g
 
 -- how many of its rows are
 abbrev pub wrongCount : List ℕ → (ℕ → List ℕ) → List ℕ → ℕ
@@ -47,13 +47,13 @@ wrongCount s f g = countBelow (boundsOf s .rows) (wrongAt s f g)
 
 -- coefficients from 0 to p - 1, and degrees within df and dg; "The zero polynomial meets every degree bound"
 pub record Within (s : List ℕ) (f : ℕ → List ℕ) (g : List ℕ) : Type 0 where
-  pub numerators : (i : ℕ) → i < boundsOf s .outputs → Bounded (primeOf s) (numeratorBoundOf (boundsOf s) i + 1) (f i)
-  pub denominator : Bounded (primeOf s) (boundsOf s .denominator + 1) g
+  pub numerators : (i : ℕ) → i < boundsOf s .outputs → Bounded (jobPrime s) (numeratorBoundOf (boundsOf s) i + 1) (f i)
+  pub denominator : Bounded (jobPrime s) (boundsOf s .dg + 1) g
 
 -- an answer of the job: reduced, within its bounds, and at most E rows are wrong
 pub record Answer (s : List ℕ) (f : ℕ → List ℕ) (g : List ℕ) : Type 0 where
   pub within : Within s f g
-  pub reduced : Reduced (primeOf s) (boundsOf s .outputs) f g
+  pub reduced : Reduced (jobPrime s) (boundsOf s .outputs) f g
   pub few-wrong : wrongCount s f g ≤ boundsOf s .errors
 
 -- "no reduced answer within df and dg has at most E wrong rows"

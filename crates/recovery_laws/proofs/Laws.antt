@@ -18,13 +18,13 @@ use Rattle.poly.specs.Coefficients.{at}
 use Rattle.poly.specs.Operations.{valueOf, sumBelow, productAt}
 use Rattle.poly_product.proofs.Products.{sum-zeros}
 use Rattle.header.specs.Header.{boundsOf}
-use Rattle.rows.specs.Rows.{pointOf, pointsOf, valuesOf}
+use Rattle.rows.specs.Rows.{jobPoint, jobPoints, jobValues}
 use Rattle.rows.proofs.Entries.{points-at}
 use Rattle.job.proofs.Facts.{WellFormedFacts, well-formed-facts}
 use Rattle.answer.specs.Bytes.{twoBytes, fourBytes, coefficientBytes, outputBytes, answerBytes, overwritten}
 use Rattle.word.proofs.Words.{word-same}
 use Rattle.soundness.proofs.Candidates.{P, F, problem, ample, capacity}
-use Rattle.recovery.specs.Answers.{primeOf, wrongAt, wrongCount, Divides, LeadingOne, Reduced, Answer, Unsolvable}
+use Rattle.recovery.specs.Answers.{jobPrime, wrongAt, wrongCount, Divides, LeadingOne, Reduced, Answer, Unsolvable}
 use Rattle.recovery.specs.Recovery.{wordFor, Answered, Settled}
 use Rattle.recovery.proofs.AnswerMeaning.{answer-means, right-means, value-g, row}
 use Rattle.recovery.proofs.Settlement.{usable, last, numerators, denominator, unsolvable-early, unsolvable-late, solved}
@@ -74,16 +74,16 @@ module _ {p n : ℕ} {f : ℕ → List ℕ} {g : List ℕ} (two : 1 < p) (R : Re
 
 module _ (s : List ℕ) {area : ℕ} (W : WellFormedFacts s area) where
   -- "A row at a root of g is always wrong"
-  pub root-wrong : {f : ℕ → List ℕ} {g : List ℕ} → Answer s f g → (r : ℕ) → r < boundsOf s .rows → valueOf (primeOf s) (pointOf s r) g ≡ 0
+  pub root-wrong : {f : ℕ → List ℕ} {g : List ℕ} → Answer s f g → (r : ℕ) → r < boundsOf s .rows → valueOf (jobPrime s) (jobPoint s r) g ≡ 0
       → wrongAt s f g r ≡ true
   root-wrong {f} {g} a r l z = by (wrongAt s f g r) refl
     where
       by : (w : Bool) → wrongAt s f g r ≡ w → w ≡ true
       by true e = refl
       by false e =
-          absurd (right-nonzero (F (boundsOf s)) 32 (problem (boundsOf s) (pointsOf s) (valuesOf s)) (answer-means s W a)
-          (ample-fits (F (boundsOf s)) 32 _ (ample (boundsOf s) (pointsOf s) (valuesOf s) (usable s W)) (capacity (boundsOf s) (pointsOf s) (valuesOf s) (usable s W)))
-          (row s W r) (right-means s W (a .within) r l e) (rw (points-at s r l) (sym (value-g s W (a .within) (pointOf s r)) ∙ ap (residue (primeOf s) (P (boundsOf s))) z)))
+          absurd (right-nonzero (F (boundsOf s)) 32 (problem (boundsOf s) (jobPoints s) (jobValues s)) (answer-means s W a)
+          (ample-fits (F (boundsOf s)) 32 _ (ample (boundsOf s) (jobPoints s) (jobValues s) (usable s W)) (capacity (boundsOf s) (jobPoints s) (jobValues s) (usable s W)))
+          (row s W r) (right-means s W (a .within) r l e) (rw (points-at s r l) (sym (value-g s W (a .within) (jobPoint s r)) ∙ ap (residue (jobPrime s) (P (boundsOf s))) z)))
 
   -- whether an answer exists is decided
   pub decided : ((f : ℕ → List ℕ) × (g : List ℕ) × Answer s f g) ⊎ Unsolvable s
@@ -109,7 +109,7 @@ outputs-same b f f' (suc n) e =
 
 bytes-same : (b : Bounds) {w w' : ℕ} {f f' : ℕ → List ℕ} {g g' : List ℕ} → w ≡ w' → Same (b .outputs) f g f' g' → answerBytes b w g f ≡ answerBytes b w' g' f'
 bytes-same b {w} {w'} {f} {f'} {g} {g'} e h =
-    ap₂ _++_ (ap fourBytes e) (ap₂ _++_ (coefficients-same g g' (h .denominator) (b .denominator + 1)) (outputs-same b f f' (b .outputs) (h .numerators)))
+    ap₂ _++_ (ap fourBytes e) (ap₂ _++_ (coefficients-same g g' (h .denominator) (b .dg + 1)) (outputs-same b f f' (b .outputs) (h .numerators)))
 
 module _ (s area : List ℕ) {r r' : Outcome} {after after' : List ℕ} where
   same-answer : Answered s area r after → Answered s area r' after' → (r ≡ r') × (after ≡ after')

@@ -10,12 +10,12 @@ use Rattle.reciprocal.proofs.PrimeField.{equal-residue}
 use Rattle.poly.specs.Coefficients.{at, Bounded}
 use Rattle.poly_meaning.proofs.Series.{series-at}
 use Rattle.header.specs.Header.{boundsOf}
-use Rattle.rows.specs.Rows.{pointOf, pointsOf, valuesOf}
+use Rattle.rows.specs.Rows.{jobPoint, jobPoints, jobValues}
 use Rattle.job.proofs.Facts.{WellFormedFacts}
 use Rattle.word.specs.Word.{flagOf, countBelow}
 use Rattle.judge.proofs.Rows.{wrong-same}
 use Rattle.soundness.proofs.Candidates.{P, F, poly, problem, ample, capacity}
-use Rattle.recovery.specs.Answers.{primeOf, wrongAt, wrongCount, Divides, Answer}
+use Rattle.recovery.specs.Answers.{jobPrime, wrongAt, wrongCount, Divides, Answer}
 use Rattle.recovery.proofs.AnswerMeaning.{answer-means}
 use Rattle.recovery.proofs.Settlement.{usable}
 
@@ -41,7 +41,7 @@ divides-same p d a b e D = (D .0, λ k. D .1 k ∙ ap (λ t. t % p) (sym (e k)))
 module _ (s : List ℕ) {f f' : ℕ → List ℕ} {g g' : List ℕ} (h : Same (boundsOf s .outputs) f g f' g') where
   -- the same rows are wrong
   pub wrong-at-same : (r : ℕ) → wrongAt s f g r ≡ wrongAt s f' g' r
-  wrong-at-same r = wrong-same (primeOf s) (pointOf s r) (boundsOf s .outputs) f f' g g' (λ i l. refl) (h .numerators) (h .denominator)
+  wrong-at-same r = wrong-same (jobPrime s) (jobPoint s r) (boundsOf s .outputs) f f' g g' (λ i l. refl) (h .numerators) (h .denominator)
 
   pub wrong-count-same : wrongCount s f g ≡ wrongCount s f' g'
   wrong-count-same = count-same (boundsOf s .rows) (wrongAt s f g) (wrongAt s f' g') (λ r l. wrong-at-same r)
@@ -58,7 +58,7 @@ module _ (s : List ℕ) {f f' : ℕ → List ℕ} {g g' : List ℕ} (h : Same (b
         leading = sym (h .denominator _) ∙ a .reduced .monic .leading;
         above = λ k l. sym (h .denominator k) ∙ a .reduced .monic .above k l;
       };
-      coprime = λ d dg df. a .reduced .coprime d (divides-same (primeOf s) d g g' (h .denominator) dg) (λ i l. divides-same (primeOf s) d (f i) (f' i) (h .numerators i l) (df i l));
+      coprime = λ d dg df. a .reduced .coprime d (divides-same (jobPrime s) d g g' (h .denominator) dg) (λ i l. divides-same (jobPrime s) d (f i) (f' i) (h .numerators i l) (df i l));
     };
     few-wrong = (let e = wrong-count-same in let m = a .few-wrong in omega arith);
   }
@@ -73,11 +73,11 @@ at-most-one s W {f} {f'} {g} {g'} a a' = record {
   where
     both : (poly (boundsOf s) g ≡ poly (boundsOf s) g') × ((i : ℕ) → i < boundsOf s .outputs → poly (boundsOf s) (f i) ≡ poly (boundsOf s) (f' i))
     both =
-        unique (F (boundsOf s)) 32 (problem (boundsOf s) (pointsOf s) (valuesOf s)) (ample (boundsOf s) (pointsOf s) (valuesOf s) (usable s W))
-        (capacity (boundsOf s) (pointsOf s) (valuesOf s) (usable s W)) (answer-means s W a) (answer-means s W a')
+        unique (F (boundsOf s)) 32 (problem (boundsOf s) (jobPoints s) (jobValues s)) (ample (boundsOf s) (jobPoints s) (jobValues s) (usable s W))
+        (capacity (boundsOf s) (jobPoints s) (jobValues s) (usable s W)) (answer-means s W a) (answer-means s W a')
 
-    equal : {n : ℕ} (x y : List ℕ) → Bounded (primeOf s) n x → Bounded (primeOf s) n y → poly (boundsOf s) x ≡ poly (boundsOf s) y → (k : ℕ) → at x k ≡ at y k
+    equal : {n : ℕ} (x y : List ℕ) → Bounded (jobPrime s) n x → Bounded (jobPrime s) n y → poly (boundsOf s) x ≡ poly (boundsOf s) y → (k : ℕ) → at x k ≡ at y k
     equal x y bx by e k =
         sym (mod-eq-of-lt (bx .residues k))
-        ∙ equal-residue (primeOf s) (P (boundsOf s)) _ _ (sym (series-at (primeOf s) (P (boundsOf s)) x k) ∙ ap (λ t. t k) e ∙ series-at (primeOf s) (P (boundsOf s)) y k)
+        ∙ equal-residue (jobPrime s) (P (boundsOf s)) _ _ (sym (series-at (jobPrime s) (P (boundsOf s)) x k) ∙ ap (λ t. t k) e ∙ series-at (jobPrime s) (P (boundsOf s)) y k)
         ∙ mod-eq-of-lt (by .residues k)

@@ -8,19 +8,19 @@ use lib.ListN.{getD}
 use Rattle.poly.proofs.Lists.{at-tabulate}
 use Rattle.header.specs.Header.{boundsOf}
 use Rattle.header.proofs.Fields.{narrow}
-use Rattle.rows.specs.Rows.{pointOf, valueOf, pointsOf, valuesOf}
+use Rattle.rows.specs.Rows.{jobPoint, jobValue, jobPoints, jobValues}
 
 module _ (s : List ℕ) where
   -- row r's point stands at r
-  pub points-at : (r : ℕ) → r < boundsOf s .rows → getD (pointsOf s) r 0 ≡ pointOf s r
-  unfolding pointsOf
+  pub points-at : (r : ℕ) → r < boundsOf s .rows → getD (jobPoints s) r 0 ≡ jobPoint s r
+  unfolding jobPoints
   points-at r l =
       let h = narrow s in
       at-tabulate 32 _ r (omega arith) ∙ simp (lt-ltb r (boundsOf s .rows) l)
 
   -- the value of output i in row r stands at 4 r + i
-  pub values-at : (r i : ℕ) → r < boundsOf s .rows → i < boundsOf s .outputs → getD (valuesOf s) (r * 4 + i) 0 ≡ valueOf s r i
-  unfolding valuesOf
+  pub values-at : (r i : ℕ) → r < boundsOf s .rows → i < boundsOf s .outputs → getD (jobValues s) (r * 4 + i) 0 ≡ jobValue s r i
+  unfolding jobValues
   values-at r i l m =
       let h = narrow s in
       let row : (r * 4 + i) / 4 ≡ r = omega arith in

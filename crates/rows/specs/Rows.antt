@@ -12,21 +12,21 @@ unfoldable pub numberAt : List ℕ → ℕ → ℕ → ℕ
 numberAt s r c = numberFrom s (3 + 2 * (r * (1 + boundsOf s .outputs) + c))
 
 -- the point of row r, counted from 0
-abbrev pub pointOf : List ℕ → ℕ → ℕ
-pointOf s r = numberAt s r 0
+abbrev pub jobPoint : List ℕ → ℕ → ℕ
+jobPoint s r = numberAt s r 0
 
 -- the value of output i in row r, both counted from 0
-abbrev pub valueOf : List ℕ → ℕ → ℕ → ℕ
-valueOf s r i = numberAt s r (1 + i)
+abbrev pub jobValue : List ℕ → ℕ → ℕ → ℕ
+jobValue s r i = numberAt s r (1 + i)
 
 -- the same, with 0 for outputs that do not exist
 abbrev pub valueOrZero : List ℕ → ℕ → ℕ → ℕ
-valueOrZero s r i = cond (ltb i (boundsOf s .outputs)) (valueOf s r i) 0
+valueOrZero s r i = cond (ltb i (boundsOf s .outputs)) (jobValue s r i) 0
 
 -- the points of all rows, and 0 at places that are no rows
-unfoldable pub pointsOf : List ℕ → List ℕ
-pointsOf s = tabulate 32 (λ r. cond (ltb r (boundsOf s .rows)) (pointOf s r) 0)
+unfoldable pub jobPoints : List ℕ → List ℕ
+jobPoints s = tabulate 32 (λ r. cond (ltb r (boundsOf s .rows)) (jobPoint s r) 0)
 
 -- the values of all rows, that of output i in row r at 4 r + i, and 0 at places that are no rows or outputs
-unfoldable pub valuesOf : List ℕ → List ℕ
-valuesOf s = tabulate 128 (λ k. cond (ltb (k / 4) (boundsOf s .rows)) (valueOrZero s (k / 4) (k % 4)) 0)
+unfoldable pub jobValues : List ℕ → List ℕ
+jobValues s = tabulate 128 (λ k. cond (ltb (k / 4) (boundsOf s .rows)) (valueOrZero s (k / 4) (k % 4)) 0)

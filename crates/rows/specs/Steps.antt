@@ -6,12 +6,12 @@ use lib.Dec.{ltb}
 use lib.ListN.{getD, set}
 use Rattle.format.specs.Numbers.{numberFrom}
 use Rattle.rows.specs.declared.Row.{Row}
-use Rattle.rows.specs.Rows.{pointOf, valueOrZero}
+use Rattle.rows.specs.Rows.{jobPoint, valueOrZero}
 use Rattle.poly.specs.Coefficients.{tabulate}
 
 -- one row
 unfoldable pub rowAt : List ℕ → ℕ → Row
-rowAt s r = record { point = pointOf s r; values = tabulate 4 (valueOrZero s r) }
+rowAt s r = record { point = jobPoint s r; values = tabulate 4 (valueOrZero s r) }
 
 -- "Each row is examined through its own stretch": a row from its own bytes and the number of outputs
 unfoldable pub rowOf : List ℕ → ℕ → Row

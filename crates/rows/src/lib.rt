@@ -4,7 +4,7 @@ ghost use mathlib.Core.Path.{_≡_};
 ghost use lib.ListN.{length, set};
 ghost use Rattle.format.specs.Numbers.{numberFrom};
 ghost use Rattle.header.specs.Header.{boundsOf};
-ghost use Rattle.rows.specs.Rows.{pointsOf, valuesOf};
+ghost use Rattle.rows.specs.Rows.{jobPoints, jobValues};
 ghost use Rattle.rows.specs.Steps.{rowOf, rowAt, setFour};
 use cursor::wide;
 
@@ -75,7 +75,7 @@ impl Rows {
 pub fn read_rows(job: &[u8], rows: usize, outputs: usize) -> Rows
     requires { ⌜ (rows ≤ 31) × (outputs ≤ 4) × (length (now job) ≡ 3 + 2 * rows * (1 + outputs)) ⌝ }
     requires { ⌜ (rows ≡ boundsOf (now job) .rows) × (outputs ≡ boundsOf (now job) .outputs) ⌝ }
-    ensures { λ x. ⌜ (x .points ≡ pointsOf (now (job .entry))) × (x .values ≡ valuesOf (now (job .entry))) ⌝ }
+    ensures { λ x. ⌜ (x .points ≡ jobPoints (now (job .entry))) × (x .values ≡ jobValues (now (job .entry))) ⌝ }
 {
     let mut all = Rows {
         points: [0u32; 32],

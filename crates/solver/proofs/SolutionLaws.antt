@@ -1,6 +1,6 @@
 -- Laws of the solver's result that the proofs of the functions share.
 use mathlib.Core.Path.{_≡_, refl, sym, _∙_, ap, ap₂, subst}
-use mathlib.Core.Bool.{true, false}
+use mathlib.Core.Bool.{true, false, cond}
 use mathlib.Core.List.{List}
 use Prim.Native.Nat.{ℕ, _+_, _*_, _≤_, _<_}
 use native.Mathlib.Nat.{mul-le-mul}
@@ -10,12 +10,10 @@ use borrow.Author.Tests.{lt-ltb, le-ltb}
 use Rattle.format.specs.declared.Bounds.{Bounds}
 use Rattle.format.specs.declared.Outcome.the-variants.{Recovered, Refused}
 use Rattle.format.specs.declared.Reason.the-variants.{NoAnswer}
-use Rattle.format.specs.Bounds.{Storable, answerLengthOf}
+use Rattle.format.specs.Bounds.{Storable, answerLengthOf, Sized}
 use Rattle.poly.specs.declared.Poly.{Poly}
 use Rattle.poly.specs.Vectors.{zeroPoly}
-use Rattle.pairs.specs.Pairs.{choose}
-use Rattle.column.specs.Sizes.{Sized}
-use Rattle.column.proofs.Sizes.{numerator-low, denominator-low}
+use Rattle.format.proofs.Sizes.{numerator-low, denominator-low}
 use Rattle.vector.specs.declared.Candidate.{Candidate}
 use Rattle.extension.specs.Extensions.{Fitting}
 use Rattle.word.specs.Word.{wrongCountOf}
@@ -38,7 +36,7 @@ short-answer {b} s =
     let n = numerator-low s 0 in
     let d = denominator-low s in
     let o = s .outputs in
-    let product : b .outputs * (b .numerator + 1) ≤ 4 * 31 = mul-le-mul {n₂ = 4} {m₂ = 31} o (omega arith) in
+    let product : b .outputs * (b .df + 1) ≤ 4 * 31 = mul-le-mul {n₂ = 4} {m₂ = 31} o (omega arith) in
     omega arith
 
 pub unsolved-is : (none : Poly) → none .c ≡ zeroPoly .c
@@ -50,12 +48,12 @@ unsolved-is none e =
 module _ (b : Bounds) (points values : List ℕ) (c : Candidate) where
   pub judged-unsolvable : c .solvable ≡ false → unsolvedSolution ≡ judgedSolution b points values c
   unfolding judgedSolution
-  judged-unsolvable e = subst (λ t. unsolvedSolution ≡ choose t (countedSolution b points values c) unsolvedSolution) (sym e) refl
+  judged-unsolvable e = subst (λ t. unsolvedSolution ≡ cond t (countedSolution b points values c) unsolvedSolution) (sym e) refl
 
   pub judged-solvable : c .solvable ≡ true → countedSolution b points values c ≡ judgedSolution b points values c
   unfolding judgedSolution
   judged-solvable e =
-      subst (λ t. countedSolution b points values c ≡ choose t (countedSolution b points values c) unsolvedSolution) (sym e) refl
+      subst (λ t. countedSolution b points values c ≡ cond t (countedSolution b points values c) unsolvedSolution) (sym e) refl
 
   pub counted-many : b .errors < wrongCountOf (wordBy b points values c) → unsolvedSolution ≡ countedSolution b points values c
   unfolding countedSolution

@@ -1,4 +1,5 @@
 -- What the solver returns for a table of rows, as the code makes it.
+use mathlib.Core.Bool.{cond}
 use mathlib.Core.List.{List}
 use Prim.Native.Nat.{ℕ}
 use lib.Dec.{ltb}
@@ -8,7 +9,6 @@ use Rattle.format.specs.declared.Outcome.the-variants.{Recovered, Refused}
 use Rattle.format.specs.declared.Reason.the-variants.{NoAnswer}
 use Rattle.format.specs.Bounds.{answerLengthOf}
 use Rattle.poly.specs.Vectors.{zeroPoly, coefficientsAt}
-use Rattle.pairs.specs.Pairs.{choose}
 use Rattle.vector.specs.declared.Candidate.{Candidate}
 use Rattle.candidate.specs.Candidates.{candidateAfter}
 use Rattle.word.specs.Word.{wordOf, wrongCountOf}
@@ -26,7 +26,7 @@ wordBy b points values c = wordOf (b .rows) (wrongRowAt b points values (coeffic
 -- the candidate, if at most E rows are wrong for it
 unfoldable pub countedSolution : Bounds → List ℕ → List ℕ → Candidate → Solution
 countedSolution b points values c =
-    choose (ltb (b .errors) (wrongCountOf (wordBy b points values c))) unsolvedSolution
+    cond (ltb (b .errors) (wrongCountOf (wordBy b points values c))) unsolvedSolution
     (record {
       outcome = Recovered (answerLengthOf b) (wrongCountOf (wordBy b points values c));
       word = wordBy b points values c;
@@ -35,7 +35,7 @@ countedSolution b points values c =
     })
 
 unfoldable pub judgedSolution : Bounds → List ℕ → List ℕ → Candidate → Solution
-judgedSolution b points values c = choose (c .solvable) (countedSolution b points values c) unsolvedSolution
+judgedSolution b points values c = cond (c .solvable) (countedSolution b points values c) unsolvedSolution
 
 abbrev pub solutionFor : Bounds → List ℕ → List ℕ → Solution
 solutionFor b points values = judgedSolution b points values (candidateAfter b points values (b .outputs))

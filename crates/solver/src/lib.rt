@@ -1,6 +1,6 @@
 // The solver: from the table of a job's rows, the vector for which at most E rows are wrong, or refusal 8.
+ghost use Rattle.format.specs.Bounds.{Sized};
 ghost use mathlib.Core.Path.{_≡_};
-ghost use Rattle.column.specs.Sizes.{Sized};
 ghost use Rattle.candidate.specs.Candidates.{Table};
 ghost use Rattle.solver.specs.Solutions.{unsolvedSolution, solutionFor};
 use format::Bounds;

@@ -1,7 +1,7 @@
 -- The candidate that the code holds after each output is a candidate in the sense of the method, or there is no answer.
 use mathlib.Core.Path.{_≡_, refl, sym, _∙_, ap, subst}
 use mathlib.Core.Logic.{_≢_, _⊎_, inl, inr}
-use mathlib.Core.Bool.{true, false}
+use mathlib.Core.Bool.{true, false, cond}
 use mathlib.Core.List.{List}
 use Prim.Native.Nat.{ℕ, zero, suc, _+_, _-_, _*_, _≤_, _<_}
 use native.Mathlib.Nat.{mod-eq-of-lt}
@@ -31,7 +31,7 @@ use Rattle.field.proofs.Primality.{IsPrime}
 use Rattle.field.proofs.Moduli.{modulus-prime}
 use Rattle.reciprocal.proofs.PrimeField.{residue, equal-residue, residueRing, residueField}
 use Rattle.format.specs.declared.Bounds.{Bounds}
-use Rattle.format.specs.Bounds.{numeratorBoundOf}
+use Rattle.format.specs.Bounds.{numeratorBoundOf, Sized, primeOf}
 use Rattle.poly.specs.declared.Poly.{Poly}
 use Rattle.poly.specs.Coefficients.{at, Bounded}
 use Rattle.poly.specs.Operations.{lengthBelow, lengthOf, productOf}
@@ -41,9 +41,7 @@ use Rattle.poly.proofs.Lengths.{bounded-length, length-at-most}
 use Rattle.poly_meaning.proofs.Series.{series, series-below, constant-means}
 use Rattle.poly_meaning.proofs.Products.{product-means}
 use Rattle.poly_meaning.proofs.Degrees.{length-means, degree-length, below-bounded}
-use Rattle.pairs.specs.Pairs.{choose}
-use Rattle.column.specs.Sizes.{Sized, primeOf}
-use Rattle.column.proofs.Sizes.{numerator-low, denominator-low}
+use Rattle.format.proofs.Sizes.{numerator-low, denominator-low}
 use Rattle.vector.specs.declared.Candidate.{Candidate}
 use Rattle.extension.specs.Extensions.{Fitting, numeratorAt, raisedAt, raisedBelow, withOutput, extendedOf}
 use Rattle.vector.specs.Vector.{unsolvableCandidate}
@@ -79,7 +77,7 @@ module _ (b : Bounds) where
       record {
         outputs = b .outputs;
         bound = numeratorBoundOf b;
-        denominatorBound = b .denominator;
+        denominatorBound = b .dg;
         errors = b .errors;
         count = b .rows;
         row = evaluation points values;
@@ -232,13 +230,13 @@ module _ (b : Bounds) (points values : List ℕ) (U : Usable b points) where
     })
     raise-all (suc j) l = by (raisedBelow b h j c) (raise-all j (omega arith))
       where
-        by : (r : Candidate) → RaisedVerdict j r → RaisedVerdict (suc j) (choose (r .solvable) (raisedAt b h j r) r)
+        by : (r : Candidate) → RaisedVerdict j r → RaisedVerdict (suc j) (cond (r .solvable) (raisedAt b h j r) r)
         by r (inl H) =
-            subst (λ t. RaisedVerdict (suc j) (choose t (raisedAt b h j r) r)) (sym (H .solvable)) (raise-verdict j (omega arith) r H)
-        by r (inr none) = subst (λ t. RaisedVerdict (suc j) (choose t (raisedAt b h j r) r)) (sym (none .0)) (inr none)
+            subst (λ t. RaisedVerdict (suc j) (cond t (raisedAt b h j r) r)) (sym (H .solvable)) (raise-verdict j (omega arith) r H)
+        by r (inr none) = subst (λ t. RaisedVerdict (suc j) (cond t (raisedAt b h j r) r)) (sym (none .0)) (inr none)
 
     -- the new candidate, where everything fits
-    module _ (r : Candidate) (H : Raised i r) (g-fits : lengthOf (c .g .c) + lengthOf h ≤ b .denominator + 2) (a-fits : lengthOf a ≤ numeratorBoundOf b i + 1) where
+    module _ (r : Candidate) (H : Raised i r) (g-fits : lengthOf (c .g .c) + lengthOf h ≤ b .dg + 2) (a-fits : lengthOf a ≤ numeratorBoundOf b i + 1) where
       d : ℕ
       d = G .degree + W .degree
 
@@ -265,7 +263,7 @@ module _ (b : Bounds) (points values : List ℕ) (U : Usable b points) where
       unfolding product-g
       g-means = product-means p (P b) (bounded-length (G .fitting .denominator)) (bounded-length bh) (let n = denominator-low (U .sized) in omega arith)
 
-      g-bounded : Bounded p (b .denominator + 1) (product-g .c)
+      g-bounded : Bounded p (b .dg + 1) (product-g .c)
       unfolding product-g
       g-bounded = bounded-raised positive (bounded-length (G .fitting .denominator)) (bounded-length bh) (λ _. omega arith)
 
@@ -296,32 +294,32 @@ module _ (b : Bounds) (points values : List ℕ) (U : Usable b points) where
         fitting = fitting;
       }
 
-    g-too-long : b .denominator + 2 < lengthOf (c .g .c) + lengthOf h → None (F b) 32 T
+    g-too-long : b .dg + 2 < lengthOf (c .g .c) + lengthOf h → None (F b) 32 T
     g-too-long long = none-if-denominator-too-long (F b) 32 T ample capacity li (G .candidate) S W (let e = G .g-length in omega arith)
 
     a-too-long : numeratorBoundOf b i + 1 < lengthOf a → None (F b) 32 T
     a-too-long long = none-if-new-numerator-too-long (F b) 32 T ample capacity li (G .candidate) S W
         (λ below. let n = length-at-most a (suc (numeratorBoundOf b i)) (below-bounded p (P b) ba (suc (numeratorBoundOf b i)) (subst (λ f. Below (R b) f (suc (numeratorBoundOf b i))) ea below) .within) in omega arith)
 
-    output-verdict : (r : Candidate) → lengthOf (c .g .c) + lengthOf h ≤ b .denominator + 2 → lengthOf a ≤ numeratorBoundOf b i + 1
+    output-verdict : (r : Candidate) → lengthOf (c .g .c) + lengthOf h ≤ b .dg + 2 → lengthOf a ≤ numeratorBoundOf b i + 1
         → RaisedVerdict i r → Verdict (suc i) (withOutput b i a (c .g .c) h r)
     unfolding withOutput last product-g
     output-verdict r g-fits a-fits (inl H) =
-        subst (λ t. Verdict (suc i) (choose t (new r H g-fits a-fits) r)) (sym (H .solvable)) (inl (H .solvable, good r H g-fits a-fits))
+        subst (λ t. Verdict (suc i) (cond t (new r H g-fits a-fits) r)) (sym (H .solvable)) (inl (H .solvable, good r H g-fits a-fits))
     output-verdict r g-fits a-fits (inr none) =
-        subst (λ t. Verdict (suc i) (choose t (record { solvable = r .solvable; g = record { c = productOf p (c .g .c) h }; f = set (r .f) i (record { c = a }) }) r))
+        subst (λ t. Verdict (suc i) (cond t (record { solvable = r .solvable; g = record { c = productOf p (c .g .c) h }; f = set (r .f) i (record { c = a }) }) r))
         (sym (none .0)) (inr none)
 
     pub extended-verdict : Verdict (suc i) (extendedOf b i a h c)
     unfolding extendedOf
-    extended-verdict = by (decLt (b .denominator + 2) (lengthOf (c .g .c) + lengthOf h)) (decLt (numeratorBoundOf b i + 1) (lengthOf a))
+    extended-verdict = by (decLt (b .dg + 2) (lengthOf (c .g .c) + lengthOf h)) (decLt (numeratorBoundOf b i + 1) (lengthOf a))
       where
-        by : Dec (b .denominator + 2 < lengthOf (c .g .c) + lengthOf h) → Dec (numeratorBoundOf b i + 1 < lengthOf a) → Verdict (suc i) (extendedOf b i a h c)
+        by : Dec (b .dg + 2 < lengthOf (c .g .c) + lengthOf h) → Dec (numeratorBoundOf b i + 1 < lengthOf a) → Verdict (suc i) (extendedOf b i a h c)
         by (yes long) y = rw (lt-ltb _ _ long) (no-answer (suc i) (g-too-long long))
         by (no g-fits) (yes long) =
-            let short : lengthOf (c .g .c) + lengthOf h ≤ b .denominator + 2 = omega arith in
+            let short : lengthOf (c .g .c) + lengthOf h ≤ b .dg + 2 = omega arith in
             rw (le-ltb _ _ short, lt-ltb _ _ long) (no-answer (suc i) (a-too-long long))
         by (no g-fits) (no a-fits) =
-            let short : lengthOf (c .g .c) + lengthOf h ≤ b .denominator + 2 = omega arith in
+            let short : lengthOf (c .g .c) + lengthOf h ≤ b .dg + 2 = omega arith in
             let fits : lengthOf a ≤ numeratorBoundOf b i + 1 = omega arith in
             rw (le-ltb _ _ short, le-ltb _ _ fits) (output-verdict (raisedBelow b h i c) short fits (raise-all i (omega arith)))

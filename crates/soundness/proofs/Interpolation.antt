@@ -55,7 +55,7 @@ use Rattle.pairs.specs.Pairs.{
   discrepancyOf,
   advancedOf,
   combinedOf,
-  stepOf,
+  pairsStep,
   startOf,
   pairsAfter,
   smallerOf,
@@ -295,10 +295,10 @@ module _ (p : ℕ) (P : IsPrime p) where
               ≡ combine R (discrepancy R 32 (conditionAt k) (meaning s .a1) (meaning s .b1)) f (discrepancy R 32 (conditionAt k) (meaning s .a0) (meaning s .b0)) g
           by-means f g = ap₂ (λ (u v : Residue p P). combine R u f v g) means1 means0
 
-      step-means : next (stepOf p x (at z k) s)
+      step-means : next (pairsStep p x (at z k) s)
       step-means = by (ℕ-discrete d0 0) (ℕ-discrete d1 0) (decLe (s .first .e) (s .second .e))
         where
-          by : Dec (d0 ≡ 0) → Dec (d1 ≡ 0) → Dec (s .first .e ≤ s .second .e) → next (stepOf p x (at z k) s)
+          by : Dec (d0 ≡ 0) → Dec (d1 ≡ 0) → Dec (s .first .e ≤ s .second .e) → next (pairsStep p x (at z k) s)
           by (yes z0) (yes z1) c = subst next (step-both p x d0 d1 s z0 z1) (keep z0 z1)
           by (yes z0) (no n1) c = subst next (step-second p x d0 d1 s _ z0 n1 refl) (second z0)
           by (no n0) (yes z1) c = subst next (step-first p x d0 d1 s _ n0 z1 refl) (first z1)

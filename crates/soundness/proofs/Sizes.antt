@@ -1,6 +1,6 @@
 -- The lists of the pairs have 32 coefficients throughout.
 use mathlib.Core.Path.{_≡_, refl}
-use mathlib.Core.Bool.{Bool, true, false}
+use mathlib.Core.Bool.{Bool, true, false, cond}
 use mathlib.Core.List.{List}
 use Prim.Native.Nat.{ℕ, zero, suc}
 use lib.Dec.{eqb, leb}
@@ -8,7 +8,7 @@ use lib.ListN.{length, getD}
 use Rattle.poly.specs.Operations.{timesLinearOf, combinationOf}
 use Rattle.poly.proofs.Lists.{length-tabulate}
 use Rattle.pairs.specs.declared.Pair.{Pair}
-use Rattle.pairs.specs.Pairs.{Pairs, choose, advancedOf, combinedOf, stepBy, startOf, pairsAfter, smallerOf, solutionOf}
+use Rattle.pairs.specs.Pairs.{Pairs, advancedOf, combinedOf, stepBy, startOf, pairsAfter, smallerOf, solutionOf}
 
 pub record Whole (s : Pair) : Type 0 where
   pub left : length (s .a .c) ≡ 32
@@ -26,7 +26,7 @@ whole-combined : (p d : ℕ) (s : Pair) (c : ℕ) (t : Pair) → Whole (combined
 unfolding combinedOf combinationOf
 whole-combined p d s c t = record { left = length-tabulate 32 _; right = length-tabulate 32 _ }
 
-either : {A : Type 0} (Q : A → Type 0) (t : Bool) {a b : A} → Q a → Q b → Q (choose t a b)
+either : {A : Type 0} (Q : A → Type 0) (t : Bool) {a b : A} → Q a → Q b → Q (cond t a b)
 either Q true qa qb = qa
 either Q false qa qb = qb
 

@@ -1,7 +1,8 @@
 -- All outputs: after the last one the code holds the method's candidate, or there is no answer.
+use Rattle.format.specs.Bounds.{primeOf}
 use mathlib.Core.Path.{_≡_, refl, sym, _∙_, ap, subst}
 use mathlib.Core.Logic.{inl, inr}
-use mathlib.Core.Bool.{true}
+use mathlib.Core.Bool.{true, cond}
 use mathlib.Core.List.{List}
 use Prim.Native.Nat.{ℕ, zero, suc, _+_, _-_, _*_, _%_, _≤_, _<_}
 use native.Mathlib.Decide.{ℕ-discrete}
@@ -19,11 +20,10 @@ use Rattle.poly.proofs.Lists.{at-tabulate}
 use Rattle.poly_meaning.proofs.Series.{residue-mod, value-means-bounded}
 use Rattle.poly_meaning.proofs.Degrees.{length-means-null}
 use Rattle.pairs.specs.declared.Pair.{Pair}
-use Rattle.pairs.specs.Pairs.{PairBounded, choose, solutionOf}
+use Rattle.pairs.specs.Pairs.{PairBounded, solutionOf}
 use Rattle.division.proofs.Leading.{Stored}
-use Rattle.column.specs.Sizes.{primeOf}
 use Rattle.column.specs.Columns.{columnOf}
-use Rattle.column.proofs.Sizes.{denominator-low}
+use Rattle.format.proofs.Sizes.{denominator-low}
 use Rattle.column.proofs.Columns.{column-is, bounded-column}
 use Rattle.vector.specs.declared.Candidate.{Candidate}
 use Rattle.candidate.specs.Candidates.{withFraction, slackOf, nextOf, candidateAfter}
@@ -112,8 +112,8 @@ module _ (b : Bounds) (points values : List ℕ) (U : Usable b points) where
   verdict (suc i) l = by (candidateAfter b points values i) (verdict i (omega arith))
     where
       by : (c : Candidate) → Verdict b points values U i c
-          → Verdict b points values U (suc i) (choose (c .solvable) (nextOf b points values i c) c)
+          → Verdict b points values U (suc i) (cond (c .solvable) (nextOf b points values i c) c)
       by c (inl G) =
-          subst (λ t. Verdict b points values U (suc i) (choose t (nextOf b points values i c) c)) (sym (G .0)) (next-verdict i c (G .1) (omega arith) (G .0))
+          subst (λ t. Verdict b points values U (suc i) (cond t (nextOf b points values i c) c)) (sym (G .0)) (next-verdict i c (G .1) (omega arith) (G .0))
       by c (inr none) =
-          subst (λ t. Verdict b points values U (suc i) (choose t (nextOf b points values i c) c)) (sym (none .0)) (inr none)
+          subst (λ t. Verdict b points values U (suc i) (cond t (nextOf b points values i c) c)) (sym (none .0)) (inr none)

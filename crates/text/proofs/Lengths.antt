@@ -70,7 +70,7 @@ module _ (s : List ℕ) (bytes : (k : ℕ) → getD s k 0 < 256) where
   pub recovered-short : (b : Bounds) → Storable b → (wrong : ℕ) → wrong < 2 ^ 32 → length (recoveredText b wrong s) < 1280
   recovered-short b fits wrong low =
       let rows = rowItems 32 0 (marked (wordFrom s)) in
-      let line = coefficientsLine (coefficientFrom s 4) (b .denominator) in
+      let line = coefficientsLine (coefficientFrom s 4) (b .dg) in
       let outputs = outputLines b s (b .outputs) in
       let one = joined recoveredLabel (decimalOf wrong) 10 10 (omega arith) (decimal-few wrong 9 (omega arith)) in
       let end = joined (recoveredLabel ++ decimalOf wrong) lineFeed 20 1 one (omega arith) in
@@ -80,7 +80,7 @@ module _ (s : List ℕ) (bytes : (k : ℕ) → getD s k 0 < 256) where
       let three = joined (recoveredLabel ++ decimalOf wrong ++ lineFeed ++ wrongLabel ++ rows ++ lineFeed) denominatorLabel 123 1 end-two (omega arith) in
       let end-three =
       joined (recoveredLabel ++ decimalOf wrong ++ lineFeed ++ wrongLabel ++ rows ++ lineFeed ++ denominatorLabel) line 124 193 three
-      (coefficients-line (coefficientFrom s 4) (coefficient-low 4) (b .denominator) (omega (arith, fits .denominator-low))) in
+      (coefficients-line (coefficientFrom s 4) (coefficient-low 4) (b .dg) (omega (arith, fits .denominator-low))) in
       omega (
         arith,
         length-append (recoveredLabel ++ decimalOf wrong ++ lineFeed ++ wrongLabel ++ rows ++ lineFeed ++ denominatorLabel ++ line) outputs,

@@ -20,21 +20,21 @@ both-true true y e = (refl, e)
 both-true false y e = absurd (subst T (sym e) tt)
 
 -- what is left of the test where its first two parts hold
-pub storable-last : (b : Bounds) → b .outputs ≤ 4 → b .denominator ≤ 31 → isStorable b ≡ leb (b .numerator) 31
+pub storable-last : (b : Bounds) → b .outputs ≤ 4 → b .dg ≤ 31 → isStorable b ≡ leb (b .df) 31
 storable-last b few low =
-    ap₂ (λ x y. cond x (cond y (leb (b .numerator) 31) false) false) (le-leb (b .outputs) 4 few) (le-leb (b .denominator) 31 low)
+    ap₂ (λ x y. cond x (cond y (leb (b .df) 31) false) false) (le-leb (b .outputs) 4 few) (le-leb (b .dg) 31 low)
 
 pub true-storable : (b : Bounds) → Storable b → isStorable b ≡ true
-true-storable b fits = storable-last b (fits .few) (fits .denominator-low) ∙ le-leb (b .numerator) 31 (fits .numerators-low 0)
+true-storable b fits = storable-last b (fits .few) (fits .denominator-low) ∙ le-leb (b .df) 31 (fits .numerators-low 0)
 
 pub storable-true : (b : Bounds) → isStorable b ≡ true → Storable b
 storable-true b e =
-    let first = both-true (leb (b .outputs) 4) (cond (leb (b .denominator) 31) (leb (b .numerator) 31) false) e in
-    let rest = both-true (leb (b .denominator) 31) (leb (b .numerator) 31) (first .1) in
+    let first = both-true (leb (b .outputs) 4) (cond (leb (b .dg) 31) (leb (b .df) 31) false) e in
+    let rest = both-true (leb (b .dg) 31) (leb (b .df) 31) (first .1) in
     record {
       few = leb-true (b .outputs) 4 (first .0);
-      denominator-low = leb-true (b .denominator) 31 (rest .0);
-      numerators-low = λ i. leb-true (b .numerator) 31 (rest .1);
+      denominator-low = leb-true (b .dg) 31 (rest .0);
+      numerators-low = λ i. leb-true (b .df) 31 (rest .1);
     }
 
 module _ (b : Bounds) (outcome : Outcome) (s old : List ℕ) where

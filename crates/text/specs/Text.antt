@@ -36,7 +36,7 @@ refusedLabel = 114 ∷ 101 ∷ 102 ∷ 117 ∷ 115 ∷ 101 ∷ 100 ∷ 32 ∷ []
 abbrev pub recoveredText : Bounds → ℕ → List ℕ → List ℕ
 recoveredText b wrong s =
     recoveredLabel ++ decimalOf wrong ++ lineFeed ++ wrongLabel ++ rowItems 32 0 (marked (wordFrom s)) ++ lineFeed ++ denominatorLabel
-    ++ coefficientsLine (coefficientFrom s 4) (b .denominator) ++ outputLines b s (b .outputs)
+    ++ coefficientsLine (coefficientFrom s 4) (b .dg) ++ outputLines b s (b .outputs)
 
 -- "A refused job prints one line, as refused 5 2: number and row"
 abbrev pub refusedText : ℕ → ℕ → List ℕ
@@ -50,7 +50,7 @@ textOf b (Refused reason row) s = refusedText (numberOf reason) row
 
 -- at most 4 outputs, and degrees of at most 31, as every job has
 abbrev pub isStorable : Bounds → Bool
-isStorable b = cond (leb (b .outputs) 4) (cond (leb (b .denominator) 31) (leb (b .numerator) 31) false) false
+isStorable b = cond (leb (b .outputs) 4) (cond (leb (b .dg) 31) (leb (b .df) 31) false) false
 
 -- what the call answers, where the buffer has so many bytes
 abbrev pub writtenOf : Bounds → Outcome → List ℕ → ℕ → Written

@@ -38,10 +38,10 @@ fn storable(b: Bounds) -> bool
     if 4 < b.outputs {
         return false;
     }
-    if 31 < b.denominator {
+    if 31 < b.dg {
         return false;
     }
-    b.numerator <= 31
+    b.df <= 31
 }
 
 // The text of an answer whose bytes stand in the area.
@@ -53,7 +53,7 @@ fn recovered(b: Bounds, wrong: u32, area: &[u8]) -> Draft
     let first = put_byte(put_decimal(named, wrong), b'\n');
     let listing = put_rows(put_label(first, b"wrong"), word_from(area));
     let second = put_byte(listing, b'\n');
-    let dg = b.denominator;
+    let dg = b.dg;
     let third = put_polynomial(put_label(second, b"g"), area, 4, dg);
     put_outputs(third, area, b)
 }

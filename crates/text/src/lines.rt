@@ -115,7 +115,7 @@ pub fn put_outputs(draft: Draft, area: &[u8], b: Bounds) -> Draft
 {
     let n = b.outputs;
     let mut r = draft;
-    let mut start = 4 + 2 * (b.denominator + 1);
+    let mut start = 4 + 2 * (b.dg + 1);
     for i in 0..n {
         let bound = b.numerator_bound(i);
         r = put_output(r, area, i, start, bound);

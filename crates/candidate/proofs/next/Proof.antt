@@ -4,7 +4,7 @@ use Prim.Native.Nat.{ℕ, _-_}
 use Rattle.field.specs.Primes.{modulusOf}
 use Rattle.pairs.specs.declared.Pair.{Pair}
 use Rattle.pairs.specs.Pairs.{solutionOf}
-use Rattle.column.proofs.Sizes.{slack-low}
+use Rattle.format.proofs.Sizes.{slack-low}
 use Rattle.extension.proofs.Fittings.{fitting-unsolvable}
 use Rattle.candidate.specs.Candidates.{slackOf, withFraction, nextOf}
 use Rattle.candidate.proofs.CandidateLaws.{fraction-none, fraction-some}

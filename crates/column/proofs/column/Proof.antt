@@ -8,7 +8,7 @@ use Rattle.poly.specs.Coefficients.{at}
 use Rattle.poly.proofs.Lists.{Filled, filled-none, filled-more}
 use Rattle.column.specs.Columns.{columnOf}
 use Rattle.column.proofs.Columns.{column-all, filled-below}
-use Rattle.column.proofs.Sizes.{denominator-low}
+use Rattle.format.proofs.Sizes.{denominator-low}
 use Rattle.column.proofs.column.Statement.{statement}
 use Rattle.column.proofs.column.Tie as tie
 

@@ -10,7 +10,7 @@ use Rattle.poly.proofs.Lists.{bounded-mono}
 use Rattle.poly.proofs.Lengths.{bounded-length}
 use Rattle.poly_product.proofs.Products.{product-one}
 use Rattle.extension.specs.Extensions.{numeratorAt, withOutput, extendedOf}
-use Rattle.column.proofs.Sizes.{numerator-low, denominator-low}
+use Rattle.format.proofs.Sizes.{numerator-low, denominator-low}
 use Rattle.extension.proofs.Fittings.{size-of-each, fitting-unsolvable, fitting-set}
 use Rattle.extension.proofs.ExtensionLaws.{output-added, output-left, denominator-too-long, numerator-too-long, extended-is, one-extended}
 use Rattle.extension.proofs.extended.Statement.{statement}

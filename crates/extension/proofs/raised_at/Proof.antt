@@ -5,7 +5,7 @@ use native.Mathlib.Omega.{arith}
 use Rattle.field.proofs.Moduli.{modulus-positive}
 use Rattle.poly.proofs.Lengths.{bounded-length}
 use borrow.Author.Needs.{needs}
-use Rattle.column.proofs.Sizes.{numerator-low}
+use Rattle.format.proofs.Sizes.{numerator-low}
 use Rattle.extension.proofs.Fittings.{bounded-raised, fitting-unsolvable, fitting-set}
 use Rattle.extension.proofs.ExtensionLaws.{raised-too-long, raised-fits}
 use Rattle.extension.proofs.raised_at.Statement.{statement}

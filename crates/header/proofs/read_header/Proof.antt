@@ -31,7 +31,7 @@ returns c =
     let dg = c .before .size4 .ensures ∙ field-at s 14 5 (omega arith) (t5 .take5 .ensures .0) in
     let e = c .size5 .ensures ∙ field-at s 19 4 (omega arith) (t6 .take6 .ensures .0) in
     let code = c .before .before .before .before .before .prime-of-code .ensures ∙ ap primeOfCode (t2 .before .take .ensures .0) in (
-      λ i. record { prime = code i; outputs = n i + 1; rows = rows i; numerator = df i; denominator = dg i; errors = e i },
+      λ i. record { prime = code i; outputs = n i + 1; rows = rows i; df = df i; dg = dg i; errors = e i },
       field-at s 23 1 (omega arith) (t7 .take7 .ensures .0) ∙ ap (λ (x : ℕ). x % 2) (div-one (headerOf s)),
     )
 

@@ -5,7 +5,7 @@ use mathlib.Core.List.{List}
 use lib.ListN.{length}
 use borrow.Author.Needs.{needs}
 use Rattle.job.specs.declared.reading.Reading.{Reading}
-use Rattle.job.specs.Answer.{readingOf}
+use Rattle.job.specs.Reading.{readingOf}
 use Rattle.text.specs.declared.Written.the-variants.{Bytes}
 use Rattle.text.specs.Text.{textOf}
 use Rattle.recover.specs.Printed.{Printed}

@@ -5,15 +5,14 @@ use Prim.Native.Nat.{ℕ, _≤_}
 use native.Mathlib.Omega.{arith}
 use lib.ListN.{length}
 use Rattle.format.specs.declared.Outcome.the-variants.{Accepted}
-use Rattle.format.specs.Bounds.{Storable, answerLengthOf}
+use Rattle.format.specs.Bounds.{Storable, answerLengthOf, Sized}
 use Rattle.header.specs.Header.{boundsOf}
-use Rattle.rows.specs.Rows.{pointsOf, valuesOf}
+use Rattle.rows.specs.Rows.{jobPoints, jobValues}
 use Rattle.job.specs.declared.reading.Reading.{Reading}
 use Rattle.job.specs.Refusals.{WellFormed}
 use Rattle.job.proofs.Facts.{well-formed-facts}
 use Rattle.poly.specs.Vectors.{coefficientsAt}
 use Rattle.answer.specs.Bytes.{answerBytes, overwritten}
-use Rattle.column.specs.Sizes.{Sized}
 use Rattle.candidate.specs.Candidates.{Table}
 use Rattle.solver.specs.Solutions.{solutionFor}
 use Rattle.recovery.proofs.Settlement.{sized, table}
@@ -44,12 +43,12 @@ module _ (c : tie.After-enum-told) where
   well-formed = sym (reading-outcome (job here) (area here) (here .read .result) (here .read .ensures)) ∙ c .enum-told .given .1
 
   accepted : here .read .result
-      ≡ record { outcome = Accepted; bounds = boundsOf (job here); points = pointsOf (job here); values = valuesOf (job here) }
+      ≡ record { outcome = Accepted; bounds = boundsOf (job here); points = jobPoints (job here); values = jobValues (job here) }
   accepted = reading-accepted (job here) (area here) (here .read .result) (here .read .ensures) well-formed
 
 -- what the solver returned, from the job's own bytes
 solution : (v : tie.After-solve) → let d = v .before .before .before .before in
-    v .solve .result ≡ solutionFor (boundsOf (job (here d))) (pointsOf (job (here d))) (valuesOf (job (here d)))
+    v .solve .result ≡ solutionFor (boundsOf (job (here d))) (jobPoints (job (here d))) (jobValues (job (here d)))
 solution v = v .solve .ensures ∙ ap (λ (r : Reading). solutionFor (r .bounds) (r .points) (r .values)) (accepted (v .before .before .before .before))
 
 solve-requires : tie.Need-solve-requires

@@ -7,7 +7,7 @@ use lib.ListN.{getD}
 use Rattle.rows.specs.declared.Row.{Row}
 use Rattle.header.specs.Header.{boundsOf}
 use Rattle.poly.specs.Coefficients.{tabulate}
-use Rattle.rows.specs.Rows.{pointOf, valueOrZero, pointsOf, valuesOf}
+use Rattle.rows.specs.Rows.{jobPoint, valueOrZero, jobPoints, jobValues}
 use Rattle.rows.specs.Steps.{rowAt}
 use Rattle.rows.proofs.RowPlaces.{row-values}
 use Rattle.rows.proofs.Tabulated.{upTo, fill-more, fill-four, groups-of-four}
@@ -17,7 +17,7 @@ use Rattle.rows.proofs.read_rows.Tie as tie
 abbrev Inv-loop : tie.InvT-loop
 Inv-loop job rows outputs all₀ r₀ all r =
     (r ≤ rows)
-    × (all .points ≡ tabulate 32 (upTo r (pointOf job)))
+    × (all .points ≡ tabulate 32 (upTo r (jobPoint job)))
     × (all .values ≡ tabulate 128 (upTo (r * 4) (λ k. valueOrZero job (k / 4) (k % 4))))
 
 abbrev μ-loop : tie.MeasureT-loop
@@ -38,17 +38,17 @@ loop-again c =
     let value : (i : ℕ) → i < 4 → getD (c .before .row-at .result .values) i 0 ≡ valueOrZero s ((r * 4 + i) / 4) ((r * 4 + i) % 4) =
     λ i l. ap (λ (x : Row). getD (x .values) i 0) row ∙ row-values s r i l in (
       omega arith,
-      c .with-row .ensures .0 ∙ rw (a .loop .inv .1) (fill-more 32 (pointOf s) r (ap (λ (x : Row). x .point) row) refl),
+      c .with-row .ensures .0 ∙ rw (a .loop .inv .1) (fill-more 32 (jobPoint s) r (ap (λ (x : Row). x .point) row) refl),
       c .with-row .ensures .1 ∙ rw (a .loop .inv .2, ← next) (fill-four 128 (λ k. valueOrZero s (k / 4) (k % 4)) (r * 4) (c .before .row-at .result .values) value),
     )
 
 returns : tie.Need-returns Inv-loop μ-loop
-unfolding pointsOf valuesOf
+unfolding jobPoints jobValues
 returns c =
     let a = c .before in
     let s = now (a .before .before .args .job) in
     let e : a .loop .r ≡ boundsOf s .rows = omega arith in (
-      a .loop .inv .1 ∙ ap (λ (n : ℕ). tabulate 32 (upTo n (pointOf s))) e,
+      a .loop .inv .1 ∙ ap (λ (n : ℕ). tabulate 32 (upTo n (jobPoint s))) e,
       a .loop .inv .2
           ∙ ap (λ (n : ℕ). tabulate 128 (upTo (n * 4) (λ k. valueOrZero s (k / 4) (k % 4)))) e
           ∙ sym (groups-of-four 128 (λ k. valueOrZero s (k / 4) (k % 4)) (boundsOf s .rows)),

@@ -6,7 +6,7 @@ use Rattle.format.proofs.Bounds.answer_length.Statement.{statement}
 use Rattle.format.proofs.Bounds.answer_length.Tie as tie
 
 -- the numerators have at most 128 coefficients
-size : (c : tie.Start) → c .args .self .outputs * (c .args .self .numerator + 1) ≤ 128
+size : (c : tie.Start) → c .args .self .outputs * (c .args .self .df + 1) ≤ 128
 size c = let low = c .pre .numerators-low 0 in mul-le-mul {m₂ = 32} (c .pre .few) (omega arith)
 
 add-result : tie.Need-add-result

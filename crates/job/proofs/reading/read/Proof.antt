@@ -10,7 +10,7 @@ use Rattle.format.specs.declared.Outcome.{Outcome}
 use Rattle.job.specs.declared.reading.Reading.{Reading}
 use Rattle.header.specs.Header.{boundsOf, jobLengthOf, rowsNeededOf, Narrow}
 use Rattle.job.specs.Refusals.{tooShort, spareBitIsOne, byteCountDiffers, outcomeOf}
-use Rattle.job.specs.Answer.{readingWith, readingOf}
+use Rattle.job.specs.Reading.{readingWith, readingOf}
 use Rattle.job.proofs.Deciding.{at-1, at-2, at-3, at-4, past-4}
 use Rattle.header.proofs.Fields.{narrow}
 use Rattle.job.proofs.reading.read.Statement.{statement}

@@ -13,7 +13,7 @@ use Rattle.row_search.specs.declared.Found.the-variants.{Nothing}
 use Rattle.row_search.specs.Search.{firstBelow}
 use Rattle.job.specs.declared.reading.Reading.{Reading}
 use Rattle.job.specs.Refusals.{outOfRange, repeatedPoint, outcomeOfRows}
-use Rattle.job.specs.Answer.{readingWith}
+use Rattle.job.specs.Reading.{readingWith}
 use Rattle.job.proofs.Deciding.{at-5, at-6, at-7, accepted}
 use Rattle.job.proofs.ArrayTests.{first-out-of-range, first-repeated}
 use Rattle.job.proofs.reading.read_body.Statement.{statement}
@@ -84,7 +84,7 @@ returns-2 c =
 answer-length-requires : tie.Need-answer-length-requires
 answer-length-requires c κs =
     let fields = start-6 (c .before .before) .pre .1 in
-    record { few = fields .outputs-most; denominator-low = fields .denominator-most; numerators-low = λ i. fields .numerator-most }
+    record { few = fields .outputs-most; denominator-low = fields .dg-most; numerators-low = λ i. fields .df-most }
 
 returns-3 : tie.Need-returns-3
 returns-3 c =

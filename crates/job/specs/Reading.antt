@@ -8,12 +8,12 @@ use Rattle.format.specs.declared.Outcome.{Outcome}
 use Rattle.format.specs.declared.Outcome.the-variants.{Accepted, Recovered, Refused}
 use Rattle.job.specs.declared.reading.Reading.{Reading}
 use Rattle.header.specs.Header.{boundsOf}
-use Rattle.rows.specs.Rows.{pointsOf, valuesOf}
+use Rattle.rows.specs.Rows.{jobPoints, jobValues}
 use Rattle.job.specs.Refusals.{outcomeOf}
 
 -- prime code 0, and 0 everywhere else
 abbrev pub noBounds : Bounds
-noBounds = record { prime = P7; outputs = 0; rows = 0; numerator = 0; denominator = 0; errors = 0 }
+noBounds = record { prime = P7; outputs = 0; rows = 0; df = 0; dg = 0; errors = 0 }
 
 -- a refused job's reading: zeros beside the outcome, whatever the bytes say
 abbrev pub refusedReading : Outcome → Reading
@@ -21,7 +21,7 @@ refusedReading outcome = record { outcome = outcome; bounds = noBounds; points =
 
 -- an outcome with the header's fields and the rows, where the job is accepted
 abbrev pub readingWith : Outcome → List ℕ → Reading
-readingWith Accepted s = record { outcome = Accepted; bounds = boundsOf s; points = pointsOf s; values = valuesOf s }
+readingWith Accepted s = record { outcome = Accepted; bounds = boundsOf s; points = jobPoints s; values = jobValues s }
 readingWith (Recovered bytes wrong) s = refusedReading (Recovered bytes wrong)
 readingWith (Refused reason row) s = refusedReading (Refused reason row)
 
