@@ -11,6 +11,7 @@ use Rattle.format.specs.declared.Reason.the-variants.{
   AreaTooShort,
   NoAnswer,
 }
+use Rattle.format.specs.declared.Report.{Report}
 use Rattle.format.specs.declared.Outcome.{Outcome}
 use Rattle.format.specs.declared.Outcome.the-variants.{Accepted, Recovered, Refused}
 
@@ -25,26 +26,16 @@ numberOf RepeatedPoint = 6
 numberOf AreaTooShort = 7
 numberOf NoAnswer = 8
 
--- 0 where nothing is refused
-abbrev pub refusalOf : Outcome → ℕ
-refusalOf Accepted = 0
-refusalOf (Recovered bytes wrong) = 0
-refusalOf (Refused reason row) = numberOf reason
+-- "A refusal carries its number and the row it speaks of": it writes nothing, and no rows are counted
+abbrev pub refusedReport : (number row : ℕ) → Report
+refusedReport number row = record { refusal = number; row = row; written = 0; wrong = 0 }
 
--- the row that a refusal speaks of, 0 where it names none
-abbrev pub rowOf : Outcome → ℕ
-rowOf Accepted = 0
-rowOf (Recovered bytes wrong) = 0
-rowOf (Refused reason row) = row
+-- "Every call that writes an area returns how many bytes .. it wrote; one that recovers adds the count of wrong rows"
+abbrev pub recoveredReport : (bytes wrong : ℕ) → Report
+recoveredReport bytes wrong = record { refusal = 0; row = 0; written = bytes; wrong = wrong }
 
--- how many bytes of the answer area were written
-abbrev pub bytesOf : Outcome → ℕ
-bytesOf Accepted = 0
-bytesOf (Recovered bytes wrong) = bytes
-bytesOf (Refused reason row) = 0
-
--- how many rows are wrong
-abbrev pub wrongOf : Outcome → ℕ
-wrongOf Accepted = 0
-wrongOf (Recovered bytes wrong) = wrong
-wrongOf (Refused reason row) = 0
+-- what an outcome says in these numbers
+abbrev pub reportOf : Outcome → Report
+reportOf Accepted = recoveredReport 0 0
+reportOf (Recovered bytes wrong) = recoveredReport bytes wrong
+reportOf (Refused reason row) = refusedReport (numberOf reason) row

@@ -1,10 +1,10 @@
 // What a job's header fixes, and what a call answers.
 ghost use mathlib.Core.Path.{_≡_};
 ghost use Rattle.format.specs.Bounds.{numeratorBoundOf, answerLengthOf, Storable};
-ghost use Rattle.format.specs.Outcomes.{numberOf, refusalOf, rowOf, bytesOf, wrongOf};
+ghost use Rattle.format.specs.Outcomes.{numberOf, reportOf};
 use field::Prime;
 
-// The header's fields: the prime, n outputs, L rows, df, dg, E.
+// The header's fields: the prime, n outputs, L rows, the degree bounds df and dg, E.
 pub struct Bounds {
     pub prime: Prime,
     pub outputs: usize,
@@ -27,7 +27,7 @@ impl Bounds {
         requires { ⌜ Storable self ⌝ }
         ensures { λ r. ⌜ r ≡ answerLengthOf self ⌝ }
     {
-        4 + 2 * ((self.dg + 1) + self.outputs * (self.df + 1))
+        4 + 2 * ((self.dg + 1) + self.outputs * (self.numerator_bound(0) + 1))
     }
 }
 
@@ -66,29 +66,30 @@ pub fn number(reason: Reason) -> u32
     }
 }
 
-// An outcome in the paper's numbers: the refusal (0 where none), the row, the bytes written, the wrong rows.
+// An outcome in the paper's numbers: the refusal (0 where none), the row it names, the bytes written, the wrong rows. Callers in C get it as
+// it stands here.
+#[repr(C)]
 pub struct Report {
     pub refusal: u32,
     pub row: u32,
-    pub bytes: u32,
+    pub written: u32,
     pub wrong: u32,
 }
 
-pub fn numbers(outcome: Outcome) -> Report
-    ensures { λ r.
-        ⌜ (r .refusal ≡ refusalOf outcome) × (r .row ≡ rowOf outcome) × (r .bytes ≡ bytesOf outcome) × (r .wrong ≡ wrongOf outcome) ⌝ }
+pub fn reported(outcome: Outcome) -> Report
+    ensures { λ r. ⌜ r ≡ reportOf outcome ⌝ }
 {
     match outcome {
         Outcome::Accepted => Report {
             refusal: 0,
             row: 0,
-            bytes: 0,
+            written: 0,
             wrong: 0,
         },
         Outcome::Recovered { bytes, wrong } => Report {
             refusal: 0,
             row: 0,
-            bytes: bytes,
+            written: bytes,
             wrong: wrong,
         },
         Outcome::Refused { reason, row } => {
@@ -96,7 +97,7 @@ pub fn numbers(outcome: Outcome) -> Report
             Report {
                 refusal: refusal,
                 row: row,
-                bytes: 0,
+                written: 0,
                 wrong: 0,
             }
         }

@@ -59,5 +59,5 @@ pub fn rows_needed(b: Bounds) -> usize
     requires { ⌜ Narrow b ⌝ }
     ensures { λ r. ⌜ r ≡ rowsNeededOf b ⌝ }
 {
-    b.df + b.dg + 2 * b.errors + 1
+    b.numerator_bound(0) + b.dg + 2 * b.errors + 1
 }

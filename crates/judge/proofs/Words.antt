@@ -7,7 +7,7 @@ use native.Mathlib.Numerals.{add-one}
 use lib.Bits.{bitOr}
 use Rattle.word.specs.Word.{wordOf}
 use Rattle.word.proofs.Words.{word-or, word-same}
-use Rattle.judge.specs.Rows.{rightOutput, wrongRow}
+use Rattle.problem.specs.Rows.{rightOutput, wrongRow}
 
 -- one output more: a row was wrong before, or the output is not right
 pub next-word : (p rows n : ℕ) (x : ℕ → ℕ) (y : ℕ → ℕ → ℕ) (f : ℕ → List ℕ) (g : List ℕ) {before here : ℕ} → rows ≤ 32

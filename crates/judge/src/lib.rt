@@ -5,13 +5,14 @@ ghost use mathlib.Core.Bool.{not};
 ghost use mathlib.Core.List.{List};
 ghost use lib.Dec.{eqb};
 ghost use Rattle.field.specs.Primes.{modulusOf};
-ghost use Rattle.format.specs.Bounds.{numeratorBoundOf};
+ghost use Rattle.format.specs.Bounds.{numeratorBoundOf, Storable};
 ghost use Rattle.poly.specs.Coefficients.{at, Bounded};
 ghost use Rattle.poly.specs.Vectors.{coefficientsAt};
 ghost use Rattle.evaluation.specs.Values.{formsOf, valuesOf, Formed};
 ghost use Rattle.word.specs.Word.{wordOf};
-ghost use Rattle.judge.specs.Rows.{rightOutput, wrongRowAt};
-ghost use Rattle.judge.specs.Answers.{Within};
+ghost use Rattle.problem.specs.Rows.{rightOutput};
+ghost use Rattle.problem.specs.Answers.{Within};
+ghost use Rattle.judge.specs.Rows.{wrongRowAt};
 use field::Prime;
 use format::Bounds;
 use poly::Poly;
@@ -53,7 +54,7 @@ fn wrong_values(
 
 // The word of the wrong rows. One bad value makes the whole row wrong.
 pub fn wrong_rows(b: Bounds, points: [u32; 32], values: [u32; 128], g: Poly, f: [Poly; 4]) -> u32
-    requires { ⌜ (b .rows ≤ 32) × Within b f g ⌝ }
+    requires { ⌜ (b .rows ≤ 32) × Storable b × Within b (coefficientsAt f) (g .c) ⌝ }
     ensures { λ word. ⌜ word ≡ wordOf (b .rows) (wrongRowAt b points values (coefficientsAt f) (g .c)) ⌝ }
 {
     let q = b.prime;

@@ -26,44 +26,6 @@ use Rattle.recovery.specs.Answers.{jobPrime, wrongCount, Within, Answer,
 use Rattle.recovery.proofs.AnswerMeaning.{answer-means, means-answer, count-means}
 
 module _ (s : List ℕ) {area : ℕ} (W : WellFormedFacts s area) where
-  positive : 0 < jobPrime s
-  positive = let two = P (boundsOf s) .two in omega arith
-
-  -- the array of points holds residues, and 0 at places that are no rows
-  points-below : (r : ℕ) → at (jobPoints s) r < jobPrime s
-  unfolding jobPoints
-  points-below r = by (decLt r 32) (decLt r (boundsOf s .rows))
-    where
-      by : Dec (r < 32) → Dec (r < boundsOf s .rows) → at (jobPoints s) r < jobPrime s
-      by (no large) d =
-          let e = at-past (jobPoints s) r (let n = length-tabulate 32 (λ r. cond (ltb r (boundsOf s .rows)) (jobPoint s r) 0) in omega arith) in
-          let h = positive in
-          omega arith
-      by (yes small) (yes is-row) = subst (λ t. t < jobPrime s) (sym (points-at s r is-row)) (W .points-in-range r is-row)
-      by (yes small) (no none) =
-          let past : boundsOf s .rows ≤ r = omega arith in
-          let e : at (jobPoints s) r ≡ 0 = at-tabulate 32 _ r small ∙ rw (le-ltb r (boundsOf s .rows) past) in
-          let h = positive in
-          omega arith
-
-  pub sized : Sized (boundsOf s)
-  sized = record {
-    outputs = W .fields .outputs-most;
-    rows = W .fields .rows-most;
-    enough = λ i. W .enough-rows;
-  }
-
-  pub table : Table (boundsOf s) (jobPoints s)
-  table = record { points-below = points-below }
-
-  pub usable : Usable (boundsOf s) (jobPoints s)
-  usable = record {
-    sized = sized;
-    table = table;
-    distinct = λ i j l l' e.
-        (let same = W .distinct i j (omega arith) l' (sym (points-at s i (omega arith)) ∙ e ∙ points-at s j l') in omega arith);
-  }
-
   -- what the code holds after the last output
   abbrev pub last : Candidate
   last = candidateAfter (boundsOf s) (jobPoints s) (jobValues s) (boundsOf s .outputs)

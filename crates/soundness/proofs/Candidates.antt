@@ -4,19 +4,16 @@ use mathlib.Core.Logic.{_≢_, _⊎_, inl, inr}
 use mathlib.Core.Bool.{true, false, cond}
 use mathlib.Core.List.{List}
 use Prim.Native.Nat.{ℕ, zero, suc, _+_, _-_, _*_, _≤_, _<_}
-use native.Mathlib.Nat.{mod-eq-of-lt}
 use native.Mathlib.Decide.{decLt, ℕ-discrete}
 use native.Mathlib.Omega.{arith}
 use lib.ListN.{length, set}
 use borrow.Author.Tests.{lt-ltb, le-ltb}
-use Rattle.algebra.proofs.Ring.{Ring}
-use Rattle.algebra.proofs.Field.{Field}
 use Rattle.algebra.proofs.Series.{Series, mulS}
 use Rattle.algebra.proofs.Bounds.{Below}
 use Rattle.algebra.proofs.Degree.{HasDegree}
 use Rattle.algebra.proofs.LowestTerms.{LowestTerms, monic-degree}
 use Rattle.method.proofs.Solution.{Solves}
-use Rattle.method.proofs.Problem.{Evaluation, Problem, None, Ample}
+use Rattle.method.proofs.Problem.{Problem, None}
 use Rattle.method.proofs.CrossProduct.{conditions}
 use Rattle.method.proofs.Outputs.{
   Candidate as MethodCandidate,
@@ -27,9 +24,6 @@ use Rattle.method.proofs.Outputs.{
   none-if-new-numerator-too-long,
   none-if-old-numerator-too-long,
 }
-use Rattle.field.proofs.Primality.{IsPrime}
-use Rattle.field.proofs.Moduli.{modulus-prime}
-use Rattle.reciprocal.proofs.PrimeField.{residue, equal-residue, residueRing, residueField}
 use Rattle.format.specs.declared.Bounds.{Bounds}
 use Rattle.format.specs.Bounds.{numeratorBoundOf, Sized, primeOf}
 use Rattle.poly.specs.declared.Poly.{Poly}
@@ -38,56 +32,18 @@ use Rattle.poly.specs.Operations.{lengthBelow, lengthOf, productOf}
 use Rattle.poly.specs.Vectors.{coefficientsAt}
 use Rattle.poly.proofs.Lists.{bounded-mono}
 use Rattle.poly.proofs.Lengths.{bounded-length, length-at-most}
-use Rattle.poly_meaning.proofs.Series.{series, series-below, constant-means}
+use Rattle.poly_meaning.proofs.Series.{series-below, constant-means}
 use Rattle.poly_meaning.proofs.Products.{product-means}
 use Rattle.poly_meaning.proofs.Degrees.{length-means, degree-length, below-bounded}
 use Rattle.format.proofs.Sizes.{numerator-low, denominator-low}
+use Rattle.problem_meaning.proofs.Tables.{P, R, F, poly, evaluation, problem, Usable, ample, capacity}
 use Rattle.vector.specs.declared.Candidate.{Candidate}
 use Rattle.extension.specs.Extensions.{Fitting, numeratorAt, raisedAt, raisedBelow, withOutput, extendedOf}
 use Rattle.vector.specs.Vector.{unsolvableCandidate}
 use Rattle.extension.proofs.Fittings.{bounded-raised, set-same, set-other, fitting-set}
 use Rattle.extension.proofs.ExtensionLaws.{raised-too-long, raised-fits}
-use Rattle.candidate.specs.Candidates.{Table, startCandidate, slackOf}
+use Rattle.candidate.specs.Candidates.{startCandidate, slackOf}
 use Rattle.candidate.proofs.CandidateLaws.{fitting-start}
-
--- the problem of a table of rows, over the residues modulo its prime
-module _ (b : Bounds) where
-  abbrev pub P : IsPrime (primeOf b)
-  P = modulus-prime (b .prime)
-
-  abbrev pub R : Ring
-  R = residueRing (primeOf b) (modulus-prime (b .prime))
-
-  abbrev pub F : Field
-  F = residueField (primeOf b) (modulus-prime (b .prime))
-
-  -- a list of the code as a polynomial
-  abbrev pub poly : List ℕ → Series (residueRing (primeOf b) (modulus-prime (b .prime)))
-  poly a = series (primeOf b) (modulus-prime (b .prime)) a
-
-  abbrev pub evaluation : List ℕ → List ℕ → ℕ → Evaluation (residueRing (primeOf b) (modulus-prime (b .prime)))
-  evaluation points values l =
-      record {
-        point = residue (primeOf b) (modulus-prime (b .prime)) (at points l);
-        values = λ i. residue (primeOf b) (modulus-prime (b .prime)) (at values (l * 4 + i));
-      }
-
-  abbrev pub problem : List ℕ → List ℕ → Problem (residueRing (primeOf b) (modulus-prime (b .prime)))
-  problem points values =
-      record {
-        outputs = b .outputs;
-        bound = numeratorBoundOf b;
-        denominatorBound = b .dg;
-        errors = b .errors;
-        count = b .rows;
-        row = evaluation points values;
-      }
-
--- what the rows keep to: sizes, residues, and distinct points
-pub record Usable (b : Bounds) (points : List ℕ) : Type 0 where
-  pub sized : Sized b
-  pub table : Table b points
-  pub distinct : (i j : ℕ) → i < j → j < b .rows → at points i ≢ at points j
 
 module _ (b : Bounds) (points values : List ℕ) (U : Usable b points) where
   abbrev p : ℕ
@@ -95,18 +51,6 @@ module _ (b : Bounds) (points values : List ℕ) (U : Usable b points) where
 
   abbrev T : Problem (R b)
   T = problem b points values
-
-  unfoldable pub ample : Ample (F b) (problem b points values)
-  ample = record {
-    distinct = λ i j l l' e. U .distinct i j l l'
-        (sym (mod-eq-of-lt (U .table .points-below i)) ∙ equal-residue p (P b) _ _ e ∙ mod-eq-of-lt (U .table .points-below j));
-    A = b .rows - 1 - slackOf b;
-    rows = (let h = U .sized .enough 0 in omega arith);
-    room = λ i l. (let h = U .sized .enough i in omega arith);
-  }
-
-  pub capacity : b .rows < 32
-  capacity = let h = U .sized .rows in omega arith
 
   -- a candidate of the code that is one of the method
   pub record Good (i : ℕ) (c : Candidate) : Type 0 where
@@ -141,7 +85,7 @@ module _ (b : Bounds) (points values : List ℕ) (U : Usable b points) where
 
   -- One output more: c holds the first i, and a / h is output i's fraction, in lowest terms, in units of 1 / g.
   module _ {i : ℕ} (li : i < b .outputs) {c : Candidate} (sc : c .solvable ≡ true) (G : Good i c) {phi psi : Series (R b)}
-      (S : Solves (R b) (ample .A) (slackOf b) 32 (conditions (F b) 32 (poly b (c .g .c)) i (evaluation b points values)) (b .rows) phi psi)
+      (S : Solves (R b) (ample b points values U .A) (slackOf b) 32 (conditions (F b) 32 (poly b (c .g .c)) i (evaluation b points values)) (b .rows) phi psi)
       (W : LowestTerms (F b) phi psi) {a h : List ℕ} (ea : W .numerator ≡ poly b a) (eh : W .denominator ≡ poly b h)
       (ba : Bounded p 32 a) (bh : Bounded p 32 h) (lh : lengthOf h ≡ suc (W .degree)) where
     i-small : i < 4
@@ -168,7 +112,7 @@ module _ (b : Bounds) (points values : List ℕ) (U : Usable b points) where
       -- too long: there is no answer
       too-long : 0 < l → numeratorBoundOf b j + 2 < l + lengthOf h → None (F b) 32 T
       too-long nonzero long =
-          none-if-old-numerator-too-long (F b) 32 T ample capacity li (G .candidate) S W j (l - 1) lj
+          none-if-old-numerator-too-long (F b) 32 T (ample b points values U) (capacity b points values U) li (G .candidate) S W j (l - 1) lj
           (subst (λ t. HasDegree (F b) (poly b t) (l - 1)) (H .rest j (omega arith))
           (length-means p (P b) (H .fitting .numerators j) (l - 1) (let e : l ≡ suc (l - 1) = omega arith in e)))
           (omega arith)
@@ -282,7 +226,7 @@ module _ (b : Bounds) (points values : List ℕ) (U : Usable b points) where
       candidate : MethodCandidate (F b) 32 T (suc i) (λ j. poly b (numeratorAt new j)) (poly b (new .g .c)) d
       unfolding d
       candidate =
-          next-candidate (F b) 32 T ample capacity li (G .candidate) S W extends
+          next-candidate (F b) 32 T (ample b points values U) (capacity b points values U) li (G .candidate) S W extends
           (let e = G .g-length in omega arith)
           (λ j l k m. series-below p (P b) (fitting .numerators j) k (omega arith))
 
@@ -295,10 +239,10 @@ module _ (b : Bounds) (points values : List ℕ) (U : Usable b points) where
       }
 
     g-too-long : b .dg + 2 < lengthOf (c .g .c) + lengthOf h → None (F b) 32 T
-    g-too-long long = none-if-denominator-too-long (F b) 32 T ample capacity li (G .candidate) S W (let e = G .g-length in omega arith)
+    g-too-long long = none-if-denominator-too-long (F b) 32 T (ample b points values U) (capacity b points values U) li (G .candidate) S W (let e = G .g-length in omega arith)
 
     a-too-long : numeratorBoundOf b i + 1 < lengthOf a → None (F b) 32 T
-    a-too-long long = none-if-new-numerator-too-long (F b) 32 T ample capacity li (G .candidate) S W
+    a-too-long long = none-if-new-numerator-too-long (F b) 32 T (ample b points values U) (capacity b points values U) li (G .candidate) S W
         (λ below. let n = length-at-most a (suc (numeratorBoundOf b i)) (below-bounded p (P b) ba (suc (numeratorBoundOf b i)) (subst (λ f. Below (R b) f (suc (numeratorBoundOf b i))) ea below) .within) in omega arith)
 
     output-verdict : (r : Candidate) → lengthOf (c .g .c) + lengthOf h ≤ b .dg + 2 → lengthOf a ≤ numeratorBoundOf b i + 1

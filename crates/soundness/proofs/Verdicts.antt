@@ -30,7 +30,8 @@ use Rattle.candidate.specs.Candidates.{withFraction, slackOf, nextOf, candidate
 use Rattle.soundness.proofs.Interpolation.{solution-means}
 use Rattle.soundness.proofs.Sizes.{whole-solution}
 use Rattle.soundness.proofs.Fraction.{fraction-means}
-use Rattle.soundness.proofs.Candidates.{P, R, F, poly, evaluation, problem, Usable, ample, capacity, Good, Verdict, no-answer, start-verdict, extended-verdict}
+use Rattle.problem_meaning.proofs.Tables.{P, R, F, poly, evaluation, problem, Usable, ample, capacity}
+use Rattle.soundness.proofs.Candidates.{Good, Verdict, no-answer, start-verdict, extended-verdict}
 
 module _ (b : Bounds) (points values : List ℕ) (U : Usable b points) where
   abbrev p : ℕ
@@ -67,13 +68,13 @@ module _ (b : Bounds) (points values : List ℕ) (U : Usable b points) where
     enough = let e = U .sized .enough 0 in omega arith
 
     bounded : PairBounded p (b .rows + 1) s
-    bounded = solution-means p (P b) (b .rows - 1 - slackOf b) (slackOf b) points z (U .table .points-below) z-below (b .rows) (U .sized .rows) enough .0
+    bounded = solution-means p (P b) (b .rows - 1 - slackOf b) (slackOf b) points z (U .points-below) z-below (b .rows) (U .sized .rows) enough .0
 
     solves : Solves (R b) (ample b points values U .A) (slackOf b) 32 (conditions (F b) 32 (poly b (c .g .c)) i (evaluation b points values)) (b .rows)
         (poly b (s .a .c)) (poly b (s .b .c))
     unfolding ample
     solves =
-        let S = solution-means p (P b) (b .rows - 1 - slackOf b) (slackOf b) points z (U .table .points-below) z-below (b .rows) (U .sized .rows) enough .1 in
+        let S = solution-means p (P b) (b .rows - 1 - slackOf b) (slackOf b) points z (U .points-below) z-below (b .rows) (U .sized .rows) enough .1 in
         record {
           phi-below = S .phi-below;
           psi-below = S .psi-below;

@@ -10,7 +10,7 @@ use Rattle.reciprocal.proofs.PrimeField.{residue, residue-number, residue-equal
 use Rattle.poly.specs.Coefficients.{tabulate}
 use Rattle.poly_meaning.proofs.Series.{series, series-at, series-below-length, tabulate-means}
 use Rattle.poly_meaning.proofs.Products.{productAt-means}
-use Rattle.recovery.specs.Answers.{Divides}
+use Rattle.problem.specs.Reduced.{Divides}
 
 module _ (p : ℕ) (P : IsPrime p) where
   -- the numbers of a polynomial's coefficients

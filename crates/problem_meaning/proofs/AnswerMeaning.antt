@@ -1,16 +1,21 @@
 -- An answer of a job, said of lists of numbers, is an answer of the method's problem for the job's rows.
-use mathlib.Core.Path.{_≡_, refl, sym, _∙_, ap}
-use mathlib.Core.Bool.{Bool, true, false}
+use mathlib.Core.Path.{_≡_, refl, sym, _∙_, ap, subst}
+use mathlib.Core.Bool.{Bool, true, false, cond}
 use mathlib.Core.List.{List}
 use Prim.Native.Nat.{ℕ, zero, suc, _+_, _*_, _%_, _≤_, _<_}
 use native.Mathlib.Nat.{mod-eq-of-lt, mod-lt}
+use native.Mathlib.Decide.{decLt}
 use native.Mathlib.Omega.{arith}
+use lib.Dec.{ltb}
+use borrow.Author.Tests.{le-ltb}
 use Rattle.algebra.proofs.Series.{Series}
 use Rattle.algebra.proofs.Value.{value}
 use Rattle.method.proofs.Problem.{Answer as MethodAnswer, Right, wrongCount as methodWrongCount, wrongCount-right, wrongCount-wrong, wrongCount-all-right, Evaluation, Problem}
 use Rattle.reciprocal.proofs.PrimeField.{Residue, residue, residue-mul, equal-residue}
+use Rattle.format.specs.Bounds.{primeOf, Sized}
 use Rattle.poly.specs.Coefficients.{at}
 use Rattle.poly.specs.Operations.{valueOf}
+use Rattle.poly.proofs.Lists.{at-past, at-tabulate, length-tabulate}
 use Rattle.poly.proofs.Values.{value-below}
 use Rattle.poly_meaning.proofs.Series.{series-at, series-below, residue-mod, residue-zero, value-means-bounded}
 use Rattle.header.specs.Header.{boundsOf}
@@ -18,17 +23,17 @@ use Rattle.rows.specs.Rows.{jobPoint, jobValue, jobPoints, jobValues}
 use Rattle.rows.proofs.Entries.{points-at, values-at}
 use Rattle.job.proofs.Facts.{WellFormedFacts}
 use Rattle.word.specs.Word.{flagOf, countBelow}
-use Rattle.judge.proofs.Rows.{right-all, all-right}
-use Rattle.soundness.proofs.Candidates.{P, R, F, poly, evaluation, problem}
-use Rattle.recovery.specs.Answers.{jobPrime, wrongAt, Within, Answer}
-use Rattle.recovery.proofs.Coprime.{coprime-means, means-coprime}
+use Rattle.problem.proofs.Rows.{right-all, all-right}
+use Rattle.problem.specs.Answers.{wrongAt, Within, Answer}
+use Rattle.problem_meaning.proofs.Tables.{P, R, F, poly, evaluation, problem, Usable}
+use Rattle.problem_meaning.proofs.Coprime.{coprime-means, means-coprime}
 
 module _ (s : List ℕ) {area : ℕ} (W : WellFormedFacts s area) where
   abbrev T : Problem (R (boundsOf s))
   T = problem (boundsOf s) (jobPoints s) (jobValues s)
 
   abbrev p : ℕ
-  p = jobPrime s
+  p = primeOf (boundsOf s)
 
   abbrev ρ : ℕ → Residue p (P (boundsOf s))
   ρ = residue p (P (boundsOf s))
@@ -36,11 +41,43 @@ module _ (s : List ℕ) {area : ℕ} (W : WellFormedFacts s area) where
   positive : 0 < p
   positive = let two = P (boundsOf s) .two in omega arith
 
+  -- the array of points holds residues, and 0 at places that are no rows
+  pub points-below : (r : ℕ) → at (jobPoints s) r < primeOf (boundsOf s)
+  unfolding jobPoints
+  points-below r = by (decLt r 32) (decLt r (boundsOf s .rows))
+    where
+      by : Dec (r < 32) → Dec (r < boundsOf s .rows) → at (jobPoints s) r < primeOf (boundsOf s)
+      by (no large) d =
+          let e = at-past (jobPoints s) r (let n = length-tabulate 32 (λ r. cond (ltb r (boundsOf s .rows)) (jobPoint s r) 0) in omega arith) in
+          let h = positive in
+          omega arith
+      by (yes small) (yes is-row) = subst (λ t. t < primeOf (boundsOf s)) (sym (points-at s r is-row)) (W .points-in-range r is-row)
+      by (yes small) (no none) =
+          let past : boundsOf s .rows ≤ r = omega arith in
+          let e : at (jobPoints s) r ≡ 0 = at-tabulate 32 _ r small ∙ rw (le-ltb r (boundsOf s .rows) past) in
+          let h = positive in
+          omega arith
+
+  pub sized : Sized (boundsOf s)
+  sized = record {
+    outputs = W .fields .outputs-most;
+    rows = W .fields .rows-most;
+    enough = λ i. W .enough-rows;
+  }
+
+  pub usable : Usable (boundsOf s) (jobPoints s)
+  usable = record {
+    sized = sized;
+    points-below = points-below;
+    distinct = λ i j l l' e.
+        (let same = W .distinct i j (omega arith) l' (sym (points-at s i (omega arith)) ∙ e ∙ points-at s j l') in omega arith);
+  }
+
   -- the rows, as the code holds them
   abbrev pub row : ℕ → Evaluation (R (boundsOf s))
   row = evaluation (boundsOf s) (jobPoints s) (jobValues s)
 
-  module _ {f : ℕ → List ℕ} {g : List ℕ} (within : Within s f g) where
+  module _ {f : ℕ → List ℕ} {g : List ℕ} (within : Within (boundsOf s) f g) where
     abbrev pub fs : ℕ → Series (R (boundsOf s))
     fs i = poly (boundsOf s) (f i)
 
@@ -106,7 +143,7 @@ module _ (s : List ℕ) {area : ℕ} (W : WellFormedFacts s area) where
     few-wrong = (let e = count-means (a .within) (boundsOf s .rows) (omega arith) in let h = a .few-wrong in omega arith);
   }
 
-  pub means-answer : {f : ℕ → List ℕ} {g : List ℕ} → Within s f g
+  pub means-answer : {f : ℕ → List ℕ} {g : List ℕ} → Within (boundsOf s) f g
       → MethodAnswer (F (boundsOf s)) 32 (problem (boundsOf s) (jobPoints s) (jobValues s)) (λ i. poly (boundsOf s) (f i)) (poly (boundsOf s) g)
       → Answer s f g
   means-answer {f} {g} within a = record {

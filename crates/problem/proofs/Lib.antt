@@ -1,0 +1,6 @@
+pub mod Values
+pub mod Rows
+pub mod Roots
+pub mod Reduced
+pub mod Same
+mod Examples

@@ -1,0 +1,5 @@
+pub mod Tables
+pub mod Lists
+pub mod Coprime
+pub mod AnswerMeaning
+pub mod OnlyOne

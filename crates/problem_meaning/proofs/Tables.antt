@@ -1,0 +1,76 @@
+-- The rows as the code holds them, as a problem of the method.
+use mathlib.Core.Path.{_≡_, sym, _∙_}
+use mathlib.Core.Logic.{_≢_}
+use mathlib.Core.List.{List}
+use Prim.Native.Nat.{ℕ, _+_, _-_, _*_, _<_}
+use native.Mathlib.Nat.{mod-eq-of-lt}
+use native.Mathlib.Omega.{arith}
+use Rattle.algebra.proofs.Ring.{Ring}
+use Rattle.algebra.proofs.Field.{Field}
+use Rattle.algebra.proofs.Series.{Series}
+use Rattle.method.proofs.Problem.{Evaluation, Problem, Ample}
+use Rattle.field.proofs.Primality.{IsPrime}
+use Rattle.field.proofs.Moduli.{modulus-prime}
+use Rattle.reciprocal.proofs.PrimeField.{residue, equal-residue, residueRing, residueField}
+use Rattle.format.specs.declared.Bounds.{Bounds}
+use Rattle.format.specs.Bounds.{numeratorBoundOf, Sized, primeOf}
+use Rattle.poly.specs.Coefficients.{at}
+use Rattle.poly_meaning.proofs.Series.{series}
+
+-- the problem of a table of rows, over the residues modulo its prime
+module _ (b : Bounds) where
+  abbrev pub P : IsPrime (primeOf b)
+  P = modulus-prime (b .prime)
+
+  abbrev pub R : Ring
+  R = residueRing (primeOf b) (modulus-prime (b .prime))
+
+  abbrev pub F : Field
+  F = residueField (primeOf b) (modulus-prime (b .prime))
+
+  -- a list of the code as a polynomial
+  abbrev pub poly : List ℕ → Series (residueRing (primeOf b) (modulus-prime (b .prime)))
+  poly a = series (primeOf b) (modulus-prime (b .prime)) a
+
+  abbrev pub evaluation : List ℕ → List ℕ → ℕ → Evaluation (residueRing (primeOf b) (modulus-prime (b .prime)))
+  evaluation points values l =
+      record {
+        point = residue (primeOf b) (modulus-prime (b .prime)) (at points l);
+        values = λ i. residue (primeOf b) (modulus-prime (b .prime)) (at values (l * 4 + i));
+      }
+
+  abbrev pub problem : List ℕ → List ℕ → Problem (residueRing (primeOf b) (modulus-prime (b .prime)))
+  problem points values =
+      record {
+        outputs = b .outputs;
+        bound = numeratorBoundOf b;
+        denominatorBound = b .dg;
+        errors = b .errors;
+        count = b .rows;
+        row = evaluation points values;
+      }
+
+-- what the rows keep to: sizes, residues, and distinct points
+pub record Usable (b : Bounds) (points : List ℕ) : Type 0 where
+  pub sized : Sized b
+  pub points-below : (l : ℕ) → at points l < primeOf b
+  pub distinct : (i j : ℕ) → i < j → j < b .rows → at points i ≢ at points j
+
+module _ (b : Bounds) (points values : List ℕ) (U : Usable b points) where
+  abbrev p : ℕ
+  p = primeOf b
+
+  abbrev T : Problem (R b)
+  T = problem b points values
+
+  unfoldable pub ample : Ample (F b) (problem b points values)
+  ample = record {
+    distinct = λ i j l l' e. U .distinct i j l l'
+        (sym (mod-eq-of-lt (U .points-below i)) ∙ equal-residue p (P b) _ _ e ∙ mod-eq-of-lt (U .points-below j));
+    A = b .rows - 1 - (b .dg + b .errors);
+    rows = (let h = U .sized .enough 0 in omega arith);
+    room = λ i l. (let h = U .sized .enough i in omega arith);
+  }
+
+  pub capacity : b .rows < 32
+  capacity = let h = U .sized .rows in omega arith
