@@ -4,3 +4,4 @@ pub mod Pigeonhole
 pub mod Facts
 pub mod Laws
 pub mod Examples
+pub mod Numbers

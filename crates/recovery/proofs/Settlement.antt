@@ -1,31 +1,32 @@
 -- What the candidate after the last output says of a well-formed job.
-use Rattle.format.specs.Bounds.{Sized}
 use mathlib.Core.Path.{_≡_, sym, _∙_, subst}
 use mathlib.Core.Logic.{inl, inr}
-use mathlib.Core.Bool.{Bool, true, false, cond}
+use mathlib.Core.Bool.{Bool, true, false}
 use mathlib.Core.List.{List}
 use Prim.Native.Nat.{ℕ, _≤_, _<_}
-use native.Mathlib.Decide.{decLt}
 use native.Mathlib.Omega.{arith}
-use lib.Dec.{ltb}
-use borrow.Author.Tests.{le-ltb}
 use Rattle.method.proofs.Problem.{None}
 use Rattle.method.proofs.Decision.{candidate-is-answer, none-if-many-wrong}
-use Rattle.poly.specs.Coefficients.{at}
-use Rattle.poly.proofs.Lists.{at-past, at-tabulate, length-tabulate}
 use Rattle.header.specs.Header.{boundsOf}
-use Rattle.rows.specs.Rows.{jobPoint, jobPoints, jobValues}
-use Rattle.rows.proofs.Entries.{points-at}
+use Rattle.rows.specs.Rows.{jobPoints, jobValues}
 use Rattle.job.proofs.Facts.{WellFormedFacts}
 use Rattle.vector.specs.declared.Candidate.{Candidate}
 use Rattle.extension.specs.Extensions.{numeratorAt}
 use Rattle.candidate.specs.Candidates.{Table, candidateAfter}
-use Rattle.soundness.proofs.Candidates.{P, F, problem, Usable, Good, Verdict}
+use Rattle.problem.specs.Answers.{wrongCount, Within, Answer, Unsolvable}
+use Rattle.problem_meaning.proofs.Tables.{F, problem}
+use Rattle.problem_meaning.proofs.AnswerMeaning.{points-below, usable, answer-means, means-answer, count-means}
+use Rattle.soundness.proofs.Candidates.{Good, Verdict}
 use Rattle.soundness.proofs.Verdicts.{verdict}
-use Rattle.recovery.specs.Answers.{jobPrime, wrongCount, Within, Answer, Unsolvable}
-use Rattle.recovery.proofs.AnswerMeaning.{answer-means, means-answer, count-means}
+
+-- a truth value is not both
+pub clash : {A : Type 0} {t : Bool} → t ≡ true → t ≡ false → A
+clash e e' = absurd (let z : _≡_ {A = ℕ} 0 1 = cc in omega arith)
 
 module _ (s : List ℕ) {area : ℕ} (W : WellFormedFacts s area) where
+  pub table : Table (boundsOf s) (jobPoints s)
+  table = record { points-below = points-below s W }
+
   -- what the code holds after the last output
   abbrev pub last : Candidate
   last = candidateAfter (boundsOf s) (jobPoints s) (jobValues s) (boundsOf s .outputs)
@@ -39,25 +40,22 @@ module _ (s : List ℕ) {area : ℕ} (W : WellFormedFacts s area) where
   none-unsolvable : None (F (boundsOf s)) 32 (problem (boundsOf s) (jobPoints s) (jobValues s)) → Unsolvable s
   none-unsolvable none f g a = none _ _ (answer-means s W a)
 
-  clash : {A : Type 0} {t : Bool} → t ≡ true → t ≡ false → A
-  clash e e' = absurd (let z : _≡_ {A = ℕ} 0 1 = cc in omega arith)
-
-  good-within : Good (boundsOf s) (jobPoints s) (jobValues s) usable (boundsOf s .outputs) last → Within s numerators denominator
+  good-within : Good (boundsOf s) (jobPoints s) (jobValues s) (usable s W) (boundsOf s .outputs) last → Within (boundsOf s) numerators denominator
   good-within G = record { numerators = λ i li. G .fitting .numerators i; denominator = G .fitting .denominator }
 
   -- no candidate: there is no answer
   pub unsolvable-early : last .solvable ≡ false → Unsolvable s
-  unsolvable-early e = by (verdict (boundsOf s) (jobPoints s) (jobValues s) usable (boundsOf s .outputs) (omega arith))
+  unsolvable-early e = by (verdict (boundsOf s) (jobPoints s) (jobValues s) (usable s W) (boundsOf s .outputs) (omega arith))
     where
-      by : Verdict (boundsOf s) (jobPoints s) (jobValues s) usable (boundsOf s .outputs) last → Unsolvable s
+      by : Verdict (boundsOf s) (jobPoints s) (jobValues s) (usable s W) (boundsOf s .outputs) last → Unsolvable s
       by (inl G) = clash (G .0) e
       by (inr none) = none-unsolvable (none .1)
 
   -- a candidate with few wrong rows is the answer
   pub solved : last .solvable ≡ true → wrongCount s numerators denominator ≤ boundsOf s .errors → Answer s numerators denominator
-  solved e few = by (verdict (boundsOf s) (jobPoints s) (jobValues s) usable (boundsOf s .outputs) (omega arith))
+  solved e few = by (verdict (boundsOf s) (jobPoints s) (jobValues s) (usable s W) (boundsOf s .outputs) (omega arith))
     where
-      by : Verdict (boundsOf s) (jobPoints s) (jobValues s) usable (boundsOf s .outputs) last → Answer s numerators denominator
+      by : Verdict (boundsOf s) (jobPoints s) (jobValues s) (usable s W) (boundsOf s .outputs) last → Answer s numerators denominator
       by (inl G) =
           let within = good-within (G .1) in
           let count = count-means s W within (boundsOf s .rows) (omega arith) in
@@ -66,9 +64,9 @@ module _ (s : List ℕ) {area : ℕ} (W : WellFormedFacts s area) where
 
   -- a candidate with too many wrong rows: there is no answer
   pub unsolvable-late : last .solvable ≡ true → boundsOf s .errors < wrongCount s numerators denominator → Unsolvable s
-  unsolvable-late e many = by (verdict (boundsOf s) (jobPoints s) (jobValues s) usable (boundsOf s .outputs) (omega arith))
+  unsolvable-late e many = by (verdict (boundsOf s) (jobPoints s) (jobValues s) (usable s W) (boundsOf s .outputs) (omega arith))
     where
-      by : Verdict (boundsOf s) (jobPoints s) (jobValues s) usable (boundsOf s .outputs) last → Unsolvable s
+      by : Verdict (boundsOf s) (jobPoints s) (jobValues s) (usable s W) (boundsOf s .outputs) last → Unsolvable s
       by (inl G) =
           let count = count-means s W (good-within (G .1)) (boundsOf s .rows) (omega arith) in
           none-unsolvable (none-if-many-wrong (F (boundsOf s)) 32 _ (G .1 .candidate) (omega arith))

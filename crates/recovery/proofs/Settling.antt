@@ -1,6 +1,6 @@
 -- From the reader's and the solver's results to what a call settles.
-use mathlib.Core.Path.{_≡_, refl, sym, _∙_, ap, subst}
-use mathlib.Core.Logic.{_⊎_, inl, inr}
+use mathlib.Core.Path.{_≡_, refl, sym, _∙_, ap, ap₂, subst}
+use mathlib.Core.Logic.{_⊎_, inl, inr, _↔_}
 use mathlib.Core.Bool.{Bool, true, false}
 use mathlib.Core.List.{List}
 use Prim.Native.Nat.{ℕ, _+_, _*_, _≤_, _<_}
@@ -9,7 +9,9 @@ use native.Mathlib.Omega.{arith}
 use lib.ListN.{length, getD}
 use Rattle.format.specs.declared.Outcome.{Outcome}
 use Rattle.format.specs.declared.Outcome.the-variants.{Accepted, Recovered, Refused}
-use Rattle.format.specs.declared.Reason.the-variants.{NoAnswer}
+use Rattle.format.specs.declared.Report.{Report}
+use Rattle.format.specs.Outcomes.{refusedReport, recoveredReport, reportOf}
+use Rattle.format.specs.Bounds.{answerLengthOf, primeOf}
 use Rattle.poly.specs.Vectors.{coefficientsAt}
 use Rattle.header.specs.Header.{boundsOf}
 use Rattle.rows.specs.Rows.{jobPoint, jobPoints, jobValues}
@@ -18,17 +20,20 @@ use Rattle.job.specs.Refusals.{outcomeOf, WellFormed}
 use Rattle.job.specs.Reading.{readingWith, readingOf}
 use Rattle.rows.proofs.Entries.{points-at, values-at}
 use Rattle.job.proofs.Facts.{WellFormedFacts, well-formed-facts}
+use Rattle.job.proofs.Numbers.{Early, outcome-early}
 use Rattle.word.specs.Word.{wrongCountOf}
 use Rattle.answer.specs.Bytes.{answerBytes, overwritten}
 use Rattle.word.proofs.Words.{word-same}
 use Rattle.word.proofs.Marks.{count-of-word}
-use Rattle.judge.specs.Rows.{wrongRow, wrongRowAt}
-use Rattle.judge.proofs.Rows.{wrong-same}
+use Rattle.judge.specs.Rows.{wrongRowAt}
+use Rattle.problem.specs.Rows.{wrongRow}
+use Rattle.problem.specs.Answers.{wrongAt, wrongCount, Answer, Unsolvable, wordFor}
+use Rattle.problem.proofs.Rows.{wrong-same}
+use Rattle.problem_meaning.proofs.OnlyOne.{at-most-one}
 use Rattle.solver.specs.declared.Solution.{Solution}
-use Rattle.recovery.specs.Answers.{jobPrime, wrongAt, wrongCount, Answer, Unsolvable}
-use Rattle.recovery.specs.Recovery.{wordFor, recoveredOutcome, Settled}
+use Rattle.recovery.specs.Recovery.{RefusedEarly, Answered, RefusedUnsolvable, Settled}
 use Rattle.solver.specs.Solutions.{unsolvedSolution, wordBy, solutionFor}
-use Rattle.recovery.proofs.Settlement.{last, numerators, denominator, unsolvable-early, unsolvable-late, solved}
+use Rattle.recovery.proofs.Settlement.{clash, last, numerators, denominator, unsolvable-early, unsolvable-late, solved}
 use Rattle.solver.proofs.SolutionLaws.{judged-unsolvable, judged-solvable, counted-many, counted-few}
 
 -- the reader's outcome is that of the tests
@@ -38,12 +43,27 @@ with-outcome (Recovered bytes wrong) s = refl
 with-outcome (Refused reason row) s = refl
 
 module _ (s area : List ℕ) where
+  -- the report says 8 exactly if the job is well formed and has no answer
+  pub settled : {r : Report} {after : List ℕ} → RefusedEarly s area r after ⊎ (Answered s area r after ⊎ RefusedUnsolvable s area r after)
+      → Settled s area r after
+  settled {r} {after} cases = record { cases = cases; eight = by cases }
+    where
+      early : RefusedEarly s area r after → Early (outcomeOf s (length area)) → r .refusal ≡ 8 → ⊥
+      early e (inl accepted) n = e .malformed accepted
+      early e (inr number) n = let same = ap (λ t. t .refusal) (e .report) in omega (arith, number .1)
+
+      by : RefusedEarly s area r after ⊎ (Answered s area r after ⊎ RefusedUnsolvable s area r after)
+          → (r .refusal ≡ 8) ↔ (WellFormed s (length area) × Unsolvable s)
+      by (inl e) = ((λ n. absurd (early e (outcome-early s (length area)) n)), λ u. absurd (e .malformed (u .0)))
+      by (inr (inl A)) = ((λ n. absurd (let same = ap (λ t. t .refusal) (A .report) in omega arith)), λ u. absurd (u .1 _ _ (A .answer)))
+      by (inr (inr U)) = ((λ n. (U .well-formed, U .none)), λ u. ap (λ t. t .refusal) (U .report))
+
   pub reading-outcome : (r : Reading) → r ≡ readingOf s (length area) → r .outcome ≡ outcomeOf s (length area)
   reading-outcome r e = ap (λ t. t .outcome) e ∙ with-outcome (outcomeOf s (length area)) s
 
-  pub settle-early : (r : Reading) → r ≡ readingOf s (length area) → (r .outcome ≡ Accepted → ⊥) → Settled s area (r .outcome) area
+  pub settle-early : (r : Reading) → r ≡ readingOf s (length area) → (r .outcome ≡ Accepted → ⊥) → Settled s area (reportOf (r .outcome)) area
   settle-early r e refused =
-      inl (record { malformed = λ wf. refused (reading-outcome r e ∙ wf); outcome = reading-outcome r e; untouched = refl })
+      settled (inl (record { malformed = λ wf. refused (reading-outcome r e ∙ wf); report = ap reportOf (reading-outcome r e); untouched = refl }))
 
   -- what an accepted job was read as
   pub reading-accepted : (r : Reading) → r ≡ readingOf s (length area) → WellFormed s (length area)
@@ -63,8 +83,8 @@ module _ (s area : List ℕ) where
     -- a row of the arrays is wrong exactly if that row of the job is
     same-wrong : (r : ℕ) → r < boundsOf s .rows → wrongRowAt (boundsOf s) (jobPoints s) (jobValues s) f g r ≡ wrongAt s f g r
     same-wrong r l =
-        ap (λ x. wrongRow (jobPrime s) (boundsOf s .outputs) x (λ i. getD (jobValues s) (r * 4 + i) 0) f g) (points-at s r l)
-        ∙ wrong-same (jobPrime s) (jobPoint s r) (boundsOf s .outputs) f f g g (λ i li. values-at s r i l li) (λ i li k. refl) (λ k. refl)
+        ap (λ x. wrongRow (primeOf (boundsOf s)) (boundsOf s .outputs) x (λ i. getD (jobValues s) (r * 4 + i) 0) f g) (points-at s r l)
+        ∙ wrong-same (primeOf (boundsOf s)) (jobPoint s r) (boundsOf s .outputs) f f g g (λ i li. values-at s r i l li) (λ i li k. refl) (λ k. refl)
 
     word-means : wordBy (boundsOf s) (jobPoints s) (jobValues s) (last s W) ≡ wordFor s f g
     unfolding wordBy
@@ -75,16 +95,16 @@ module _ (s area : List ℕ) where
 
     -- the solver's result where there is an answer
     abbrev answered : Solution
-    answered = record { outcome = recoveredOutcome s f g; word = wordFor s f g; g = last s W .g; f = last s W .f }
+    answered = record { solvable = true; word = wordFor s f g; wrong = wrongCount s f g; g = last s W .g; f = last s W .f }
 
     abbrev Cases : Solution → Type 0
-    Cases t = ((t .outcome ≡ Refused NoAnswer 0) × Unsolvable s) ⊎ (Answer s f g × (t ≡ answered))
+    Cases t = ((t .solvable ≡ false) × Unsolvable s) ⊎ (Answer s f g × (t ≡ answered))
 
     few : last s W .solvable ≡ true → wrongCount s f g ≤ boundsOf s .errors → Cases (solutionFor (boundsOf s) (jobPoints s) (jobValues s))
     few e l =
         inr (
           solved s W e l,
-          sym (counted-few (boundsOf s) (jobPoints s) (jobValues s) (last s W) refl (sym word-means) (sym word-count) l
+          sym (counted-few (boundsOf s) (jobPoints s) (jobValues s) (last s W) (sym word-means) (sym word-count) l
               ∙ judged-solvable (boundsOf s) (jobPoints s) (jobValues s) (last s W) e),
         )
       where
@@ -95,7 +115,7 @@ module _ (s area : List ℕ) where
     unfolding unsolvedSolution
     many e l =
         inl (
-          ap (λ t. t .outcome) (sym (counted-many (boundsOf s) (jobPoints s) (jobValues s) (last s W) (omega (arith, count-means))
+          ap (λ t. t .solvable) (sym (counted-many (boundsOf s) (jobPoints s) (jobValues s) (last s W) (omega (arith, count-means))
               ∙ judged-solvable (boundsOf s) (jobPoints s) (jobValues s) (last s W) e)),
           unsolvable-late s W e l,
         )
@@ -103,7 +123,7 @@ module _ (s area : List ℕ) where
     none : last s W .solvable ≡ false → Cases (solutionFor (boundsOf s) (jobPoints s) (jobValues s))
     unfolding unsolvedSolution
     none e =
-        inl (ap (λ t. t .outcome) (sym (judged-unsolvable (boundsOf s) (jobPoints s) (jobValues s) (last s W) e)), unsolvable-early s W e)
+        inl (ap (λ t. t .solvable) (sym (judged-unsolvable (boundsOf s) (jobPoints s) (jobValues s) (last s W) e)), unsolvable-early s W e)
 
     cases : Cases (solutionFor (boundsOf s) (jobPoints s) (jobValues s))
     cases = by (last s W .solvable) refl (decLt (boundsOf s .errors) (wrongCount s f g))
@@ -113,28 +133,27 @@ module _ (s area : List ℕ) where
         by true e (yes l) = many e l
         by true e (no l) = few e (omega arith)
 
-    clash : {A : Type 0} {o : Outcome} {bytes wrong : ℕ} → o ≡ Refused NoAnswer 0 → o ≡ Recovered bytes wrong → A
-    clash e e' = absurd (let z : _≡_ {A = ℕ} 0 1 = cc in omega arith)
-
     module _ (t : Solution) (e : t ≡ solutionFor (boundsOf s) (jobPoints s) (jobValues s)) where
-      pub settle-unsolved : ((bytes wrong : ℕ) → t .outcome ≡ Recovered bytes wrong → ⊥) → Settled s area (t .outcome) area
-      settle-unsolved refused = by (subst Cases (sym e) cases)
+      pub settle-unsolved : t .solvable ≡ false → Settled s area (refusedReport 8 0) area
+      settle-unsolved unsolved = by (subst Cases (sym e) cases)
         where
-          by : Cases t → Settled s area (t .outcome) area
-          by (inl u) = inr (inr (record { well-formed = wf; none = u .1; outcome = u .0; untouched = refl }))
-          by (inr a) = absurd (refused _ _ (ap (λ r. r .outcome) (a .1)))
+          by : Cases t → Settled s area (refusedReport 8 0) area
+          by (inl u) = settled (inr (inr (record { well-formed = wf; none = u .1; report = refl; untouched = refl })))
+          by (inr a) = clash (ap (λ r. r .solvable) (a .1)) unsolved
 
-      pub settle-solved : (bytes wrong : ℕ) → t .outcome ≡ Recovered bytes wrong → (after : List ℕ)
-          → after ≡ overwritten (answerBytes (boundsOf s) (t .word) (t .g .c) (coefficientsAt (t .f))) area → Settled s area (t .outcome) after
-      settle-solved bytes wrong recovered after written = by (subst Cases (sym e) cases)
+      pub settle-solved : t .solvable ≡ true → (bytes : ℕ) → bytes ≡ answerLengthOf (boundsOf s) → (after : List ℕ)
+          → after ≡ overwritten (answerBytes (boundsOf s) (t .word) (t .g .c) (coefficientsAt (t .f))) area
+          → Settled s area (recoveredReport bytes (t .wrong)) after
+      settle-solved recovered bytes length-is after written = by (subst Cases (sym e) cases)
         where
-          by : Cases t → Settled s area (t .outcome) after
-          by (inl u) = clash (u .0) recovered
-          by (inr a) = inr (inl (record {
+          by : Cases t → Settled s area (recoveredReport bytes (t .wrong)) after
+          by (inl u) = clash recovered (u .0)
+          by (inr a) = settled (inr (inl (record {
             well-formed = wf;
             f = f;
             g = g;
             answer = a .0;
-            outcome = ap (λ r. r .outcome) (a .1);
+            only = λ f' g' a'. at-most-one s W (a .0) a';
+            report = ap₂ recoveredReport length-is (ap (λ r. r .wrong) (a .1));
             written = written ∙ ap (λ r. overwritten (answerBytes (boundsOf s) (r .word) (r .g .c) (coefficientsAt (r .f))) area) (a .1);
-          }))
+          })))

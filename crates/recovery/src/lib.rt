@@ -1,10 +1,12 @@
 // The recovery: a job's bytes in, the reduced vector and exactly its wrong rows out, or a numbered refusal.
+ghost use Rattle.format.specs.Outcomes.{reportOf};
 ghost use Rattle.recovery.specs.Recovery.{Settled};
 use format::Outcome;
+use format::Reason;
 
 // Demands 1 and 2: any job, any area.
 pub fn recover(job: &[u8], area: &mut [u8]) -> Outcome
-    ensures { λ r. ⌜ Settled (now (job .entry)) (now (area .entry)) r (now (area .exit)) ⌝ }
+    ensures { λ r. ⌜ Settled (now (job .entry)) (now (area .entry)) (reportOf r) (now (area .exit)) ⌝ }
 {
     let reading = job::read(job, area.len());
     let verdict = reading.outcome;
@@ -15,13 +17,18 @@ pub fn recover(job: &[u8], area: &mut [u8]) -> Outcome
     let points = reading.points;
     let values = reading.values;
     let s = solver::solve(b, points, values);
-    let outcome = s.outcome;
-    let Outcome::Recovered { bytes: _, wrong: _ } = outcome else {
-        return outcome;
-    };
+    if !s.solvable {
+        return Outcome::Refused {
+            reason: Reason::NoAnswer,
+            row: 0,
+        };
+    }
     let word = s.word;
     let g = s.g;
     let f = s.f;
-    answer::write(area, b, word, g, f);
-    outcome
+    let bytes = answer::write(area, b, word, g, f) as u32;
+    Outcome::Recovered {
+        bytes: bytes,
+        wrong: s.wrong,
+    }
 }

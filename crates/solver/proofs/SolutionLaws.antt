@@ -2,22 +2,19 @@
 use mathlib.Core.Path.{_≡_, refl, sym, _∙_, ap, ap₂, subst}
 use mathlib.Core.Bool.{true, false, cond}
 use mathlib.Core.List.{List}
-use Prim.Native.Nat.{ℕ, _+_, _*_, _≤_, _<_}
-use native.Mathlib.Nat.{mul-le-mul}
+use Prim.Native.Nat.{ℕ, _≤_, _<_}
 use native.Mathlib.Omega.{arith}
 use lib.ListN.{replicate}
 use borrow.Author.Tests.{lt-ltb, le-ltb}
 use Rattle.format.specs.declared.Bounds.{Bounds}
-use Rattle.format.specs.declared.Outcome.the-variants.{Recovered, Refused}
-use Rattle.format.specs.declared.Reason.the-variants.{NoAnswer}
-use Rattle.format.specs.Bounds.{Storable, answerLengthOf, Sized}
+use Rattle.format.specs.Bounds.{Storable, Sized}
 use Rattle.poly.specs.declared.Poly.{Poly}
-use Rattle.poly.specs.Vectors.{zeroPoly}
+use Rattle.poly.specs.Vectors.{zeroPoly, coefficientsAt}
 use Rattle.format.proofs.Sizes.{numerator-low, denominator-low}
 use Rattle.vector.specs.declared.Candidate.{Candidate}
 use Rattle.extension.specs.Extensions.{Fitting}
 use Rattle.word.specs.Word.{wrongCountOf}
-use Rattle.judge.specs.Answers.{Within}
+use Rattle.problem.specs.Answers.{Within}
 use Rattle.solver.specs.declared.Solution.{Solution}
 use Rattle.solver.specs.Solutions.{unsolvedSolution, wordBy, countedSolution, judgedSolution}
 
@@ -28,22 +25,14 @@ storable s = record {
   numerators-low = λ i. (let h = numerator-low s i in omega arith);
 }
 
-pub fits-judge : {b : Bounds} {c : Candidate} → Sized b → Fitting b c → Within b (c .f) (c .g)
-fits-judge s h = record { storable = storable s; denominator = h .denominator; numerators = λ i l. h .numerators i }
-
-pub short-answer : {b : Bounds} → Sized b → answerLengthOf b ≤ 1000
-short-answer {b} s =
-    let n = numerator-low s 0 in
-    let d = denominator-low s in
-    let o = s .outputs in
-    let product : b .outputs * (b .df + 1) ≤ 4 * 31 = mul-le-mul {n₂ = 4} {m₂ = 31} o (omega arith) in
-    omega arith
+pub fits-judge : {b : Bounds} {c : Candidate} → Fitting b c → Within b (coefficientsAt (c .f)) (c .g .c)
+fits-judge h = record { denominator = h .denominator; numerators = λ i l. h .numerators i }
 
 pub unsolved-is : (none : Poly) → none .c ≡ zeroPoly .c
-    → _≡_ {A = Solution} (record { outcome = Refused NoAnswer 0; word = 0; g = none; f = replicate 4 none }) unsolvedSolution
+    → _≡_ {A = Solution} (record { solvable = false; word = 0; wrong = 0; g = none; f = replicate 4 none }) unsolvedSolution
 unfolding unsolvedSolution
 unsolved-is none e =
-    ap (λ (l : List ℕ). record { outcome = Refused NoAnswer 0; word = 0; g = record { c = l }; f = replicate 4 (record { c = l }) }) e
+    ap (λ (l : List ℕ). record { solvable = false; word = 0; wrong = 0; g = record { c = l }; f = replicate 4 (record { c = l }) }) e
 
 module _ (b : Bounds) (points values : List ℕ) (c : Candidate) where
   pub judged-unsolvable : c .solvable ≡ false → unsolvedSolution ≡ judgedSolution b points values c
@@ -59,13 +48,10 @@ module _ (b : Bounds) (points values : List ℕ) (c : Candidate) where
   unfolding countedSolution
   counted-many many = simp (lt-ltb _ _ many)
 
-  pub counted-few : {bytes wrong word : ℕ} → bytes ≡ answerLengthOf b → word ≡ wordBy b points values c → wrong ≡ wrongCountOf word
-      → wrong ≤ b .errors
-      → _≡_ {A = Solution} (record { outcome = Recovered bytes wrong; word = word; g = c .g; f = c .f }) (countedSolution b points values c)
+  pub counted-few : {wrong word : ℕ} → word ≡ wordBy b points values c → wrong ≡ wrongCountOf word → wrong ≤ b .errors
+      → _≡_ {A = Solution} (record { solvable = true; word = word; wrong = wrong; g = c .g; f = c .f }) (countedSolution b points values c)
   unfolding countedSolution
-  counted-few {bytes} {wrong} {word} length-is word-is count-is few =
+  counted-few {wrong} {word} word-is count-is few =
       let count : wrong ≡ wrongCountOf (wordBy b points values c) = count-is ∙ ap wrongCountOf word-is in
       let few' : wrongCountOf (wordBy b points values c) ≤ b .errors = omega arith in
-      simp (le-ltb _ _ few')
-      (ap₂ (λ (n m : ℕ). record { outcome = Recovered n m; word = word; g = c .g; f = c .f }) length-is count
-      ∙ ap (λ (w : ℕ). record { outcome = Recovered (answerLengthOf b) (wrongCountOf (wordBy b points values c)); word = w; g = c .g; f = c .f }) word-is)
+      simp (le-ltb _ _ few') (ap₂ (λ (w n : ℕ). record { solvable = true; word = w; wrong = n; g = c .g; f = c .f }) word-is count)

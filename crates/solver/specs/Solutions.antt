@@ -1,13 +1,11 @@
--- What the solver returns for a table of rows, as the code makes it.
-use mathlib.Core.Bool.{cond}
+-- What the solver returns for a table of rows,
+-- as the code makes it.
+use mathlib.Core.Bool.{true, false, cond}
 use mathlib.Core.List.{List}
 use Prim.Native.Nat.{ℕ}
 use lib.Dec.{ltb}
 use lib.ListN.{replicate}
 use Rattle.format.specs.declared.Bounds.{Bounds}
-use Rattle.format.specs.declared.Outcome.the-variants.{Recovered, Refused}
-use Rattle.format.specs.declared.Reason.the-variants.{NoAnswer}
-use Rattle.format.specs.Bounds.{answerLengthOf}
 use Rattle.poly.specs.Vectors.{zeroPoly, coefficientsAt}
 use Rattle.vector.specs.declared.Candidate.{Candidate}
 use Rattle.candidate.specs.Candidates.{candidateAfter}
@@ -15,9 +13,9 @@ use Rattle.word.specs.Word.{wordOf, wrongCountOf}
 use Rattle.judge.specs.Rows.{wrongRowAt}
 use Rattle.solver.specs.declared.Solution.{Solution}
 
--- refusal 8
+-- there is no answer
 unfoldable pub unsolvedSolution : Solution
-unsolvedSolution = record { outcome = Refused NoAnswer 0; word = 0; g = zeroPoly; f = replicate 4 zeroPoly }
+unsolvedSolution = record { solvable = false; word = 0; wrong = 0; g = zeroPoly; f = replicate 4 zeroPoly }
 
 -- the word of the rows that are wrong for a candidate
 unfoldable pub wordBy : Bounds → List ℕ → List ℕ → Candidate → ℕ
@@ -28,8 +26,9 @@ unfoldable pub countedSolution : Bounds → List ℕ → List ℕ → Candidate 
 countedSolution b points values c =
     cond (ltb (b .errors) (wrongCountOf (wordBy b points values c))) unsolvedSolution
     (record {
-      outcome = Recovered (answerLengthOf b) (wrongCountOf (wordBy b points values c));
+      solvable = true;
       word = wordBy b points values c;
+      wrong = wrongCountOf (wordBy b points values c);
       g = c .g;
       f = c .f;
     })

@@ -1,17 +1,16 @@
-// The solver: from the table of a job's rows, the vector for which at most E rows are wrong, or refusal 8.
-ghost use Rattle.format.specs.Bounds.{Sized};
+// The solver: from the table of a job's rows, the vector for which at most E rows are wrong, if there is one.
 ghost use mathlib.Core.Path.{_≡_};
+ghost use Rattle.format.specs.Bounds.{Sized};
 ghost use Rattle.candidate.specs.Candidates.{Table};
 ghost use Rattle.solver.specs.Solutions.{unsolvedSolution, solutionFor};
 use format::Bounds;
-use format::Outcome;
-use format::Reason;
 use poly::Poly;
 
-// What the solver found: the outcome beside the word of wrong rows, the denominator and the numerators.
+// What the solver found: whether there is an answer, and where there is its word of wrong rows, their count, g and the numerators.
 pub struct Solution {
-    pub outcome: Outcome,
+    pub solvable: bool,
     pub word: u32,
+    pub wrong: u32,
     pub g: Poly,
     pub f: [Poly; 4],
 }
@@ -20,13 +19,10 @@ fn unsolved() -> Solution
     ensures { λ r. ⌜ r ≡ unsolvedSolution ⌝ }
 {
     let none = poly::zero();
-    let outcome = Outcome::Refused {
-        reason: Reason::NoAnswer,
-        row: 0,
-    };
     Solution {
-        outcome: outcome,
+        solvable: false,
         word: 0,
+        wrong: 0,
         g: none,
         f: [none; 4],
     }
@@ -48,14 +44,10 @@ pub fn solve(b: Bounds, points: [u32; 32], values: [u32; 128]) -> Solution
     if b.errors < wrong as usize {
         return unsolved();
     }
-    let bytes = b.answer_length() as u32;
-    let outcome = Outcome::Recovered {
-        bytes: bytes,
-        wrong: wrong,
-    };
     Solution {
-        outcome: outcome,
+        solvable: true,
         word: word,
+        wrong: wrong,
         g: g,
         f: f,
     }

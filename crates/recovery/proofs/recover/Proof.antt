@@ -3,6 +3,7 @@ use mathlib.Core.Logic.{⊎-elim}
 use mathlib.Core.List.{List}
 use Prim.Native.Nat.{ℕ, _≤_}
 use native.Mathlib.Omega.{arith}
+use borrow.Author.Tests.{not-true, not-false}
 use lib.ListN.{length}
 use Rattle.format.specs.declared.Outcome.the-variants.{Accepted}
 use Rattle.format.specs.Bounds.{Storable, answerLengthOf, Sized}
@@ -13,9 +14,11 @@ use Rattle.job.specs.Refusals.{WellFormed}
 use Rattle.job.proofs.Facts.{well-formed-facts}
 use Rattle.poly.specs.Vectors.{coefficientsAt}
 use Rattle.answer.specs.Bytes.{answerBytes, overwritten}
+use Rattle.answer.proofs.Lengths.{answer-short}
 use Rattle.candidate.specs.Candidates.{Table}
 use Rattle.solver.specs.Solutions.{solutionFor}
-use Rattle.recovery.proofs.Settlement.{sized, table}
+use Rattle.problem_meaning.proofs.AnswerMeaning.{sized}
+use Rattle.recovery.proofs.Settlement.{table}
 use Rattle.solver.proofs.SolutionLaws.{storable}
 use Rattle.recovery.proofs.Settling.{reading-outcome, reading-accepted, settle-early, settle-unsolved, settle-solved}
 use borrow.Author.Needs.{needs}
@@ -59,28 +62,43 @@ solve-requires c κs =
 
 returns-2 : tie.Need-returns-2
 returns-2 c =
-    let v = c .before in
+    let v = c .before .before in
     let d = v .before .before .before .before in
-    settle-unsolved (job (here d)) (area (here d)) (well-formed d) (v .solve .result) (solution v)
-    (λ bytes wrong e. ⊎-elim (λ h. omega arith) (λ h. omega arith) (rw e at (c .match2 .keys2)))
+    settle-unsolved (job (here d)) (area (here d)) (well-formed d) (v .solve .result) (solution v) (not-true _ (c .if1 .taken))
 
 write-requires : tie.Need-write-requires
 write-requires c κs =
-    let v = c .before .before .before .before .before in
-    let d = v .before .before .before .before in
+    let d = c .before .before .before .before .before .before .before .before .before in
     let W = well-formed-facts (job (here d)) (length (area (here d))) (well-formed d) in
     subst (λ (r : Reading). Storable (r .bounds) × (answerLengthOf (r .bounds) ≤ length (area (here d)))) (sym (accepted d))
     (storable (sized (job (here d)) W), W .enough-area)
 
+-- what was written, and how much of it
+module _ (c : tie.After-slice-known2) where
+  abbrev w : tie.After-write
+  w = c .before .before
+
+  abbrev told : tie.After-enum-told
+  told = w .before .before .before .before .before .before .before .before .before .before
+
+  bytes-are : w .write .result ≡ answerLengthOf (boundsOf (job (here told)))
+  bytes-are = w .write .ensures .0 ∙ ap (λ (r : Reading). answerLengthOf (r .bounds)) (accepted told)
+
+cast-bytes : tie.Need-cast-bytes
+cast-bytes c =
+    let s = job (here (told c)) in
+    let W = well-formed-facts s (length (area (here (told c)))) (well-formed (told c)) in
+    let short = answer-short (boundsOf s) (let h = W .enough-rows in let n = W .fields .rows-most in omega arith) (W .fields .outputs-most) in
+    omega (arith, bytes-are c)
+
 returns-3 : tie.Need-returns-3
 returns-3 c =
-    let w = c .before .before in
-    let told = w .before .before .before .before in
-    let v = told .before .before in
-    let d = v .before .before .before .before in
+    let v = w c .before .before .before .before .before .before in
+    let d = told c in
     let t = v .solve .result in
-    settle-solved (job (here d)) (area (here d)) (well-formed d) t (solution v) _ _ (told .enum-told2 .given .1) (w .write .last .0)
-    (w .write .ensures .1 ∙ ap (λ (r : Reading). overwritten (answerBytes (r .bounds) (t .word) (t .g .c) (coefficientsAt (t .f))) (area (here d))) (accepted d))
+    settle-solved (job (here d)) (area (here d)) (well-formed d) t (solution v) (not-false _ (w c .before .before .before .before .if1 .left)) _ (bytes-are c)
+    (w c .write .last .0)
+    (w c .write .ensures .1 ∙ ap (λ (r : Reading). overwritten (answerBytes (r .bounds) (t .word) (t .g .c) (coefficientsAt (t .f))) (area (here d))) (accepted d))
 
 pub recover-spec : {M : Type 1} → statement M
 recover-spec =
@@ -90,8 +108,8 @@ recover-spec =
     (λ c. search needs)
     returns
     solve-requires
-    (λ c. search needs)
     returns-2
     write-requires
+    cast-bytes
     (λ c. search needs)
     returns-3)

@@ -3,7 +3,7 @@ use native.Mathlib.Omega.{arith}
 use borrow.Author.Tests.{not-true, not-false}
 use Rattle.solver.specs.Solutions.{wordBy, judgedSolution}
 use Rattle.word.specs.Word.{wrongCountOf}
-use Rattle.solver.proofs.SolutionLaws.{storable, fits-judge, short-answer, judged-unsolvable, judged-solvable, counted-many, counted-few}
+use Rattle.solver.proofs.SolutionLaws.{storable, fits-judge, judged-unsolvable, judged-solvable, counted-many, counted-few}
 use borrow.Author.Needs.{needs}
 use Rattle.solver.proofs.solve.Statement.{statement}
 use Rattle.solver.proofs.solve.Tie as tie
@@ -18,7 +18,7 @@ returns c =
 wrong-rows-requires : tie.Need-wrong-rows-requires
 wrong-rows-requires c κs =
     let a = c .before .before .before .before in
-    (omega (arith, a .before .pre .0 .rows), fits-judge (a .before .pre .0) (a .after-outputs .ensures .1))
+    (omega (arith, a .before .pre .0 .rows), storable (a .before .pre .0), fits-judge (a .after-outputs .ensures .1))
 
 -- the word that was computed is the candidate's
 word-is : (r : tie.After-wrong-rows) → let a = r .before .before .before .before .before in let g = a .before .args in
@@ -42,18 +42,15 @@ returns-2 c =
     ∙ judged-solvable (g .b) (g .points) (g .values) k (not-false _ (e .if1 .left))
     ∙ ap (judgedSolution (g .b) (g .points) (g .values)) (a .after-outputs .ensures .0)
 
-answer-length-requires : tie.Need-answer-length-requires
-answer-length-requires c κs = storable (c .before .before .before .before .before .before .before .before .before .pre .0)
-
 returns-3 : tie.Need-returns-3
 returns-3 c =
-    let w = c .before .before .before in
+    let w = c .before .before in
     let r = w .before in
     let e = r .before .before .before in
     let a = e .before .before in
     let g = a .before .args in
     let k = a .after-outputs .result in
-    counted-few (g .b) (g .points) (g .values) k (c .answer-length .ensures) (word-is r) (w .wrong-count .ensures) (omega (arith, c .before .if2 .left))
+    counted-few (g .b) (g .points) (g .values) k (word-is r) (w .wrong-count .ensures) (omega (arith, c .if2 .left))
     ∙ judged-solvable (g .b) (g .points) (g .values) k (not-false _ (e .if1 .left))
     ∙ ap (judgedSolution (g .b) (g .points) (g .values)) (a .after-outputs .ensures .0)
 
@@ -69,6 +66,4 @@ solve-spec =
     (λ c. search needs)
     (λ c κs. search needs)
     returns-2
-    answer-length-requires
-    (λ c. omega (arith, c .answer-length .ensures, short-answer (c .before .before .before .before .before .before .before .before .before .before .pre .0)))
     returns-3)
