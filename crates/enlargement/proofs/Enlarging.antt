@@ -12,7 +12,7 @@ use Rattle.row_search.specs.Search.{isFound}
 use Rattle.row_search.proofs.FirstBelow.{any-passes, none-below}
 use Rattle.job.proofs.Facts.{WellFormedFacts}
 use Rattle.word.specs.Word.{flagOf, countBelow}
-use Rattle.recovery.specs.Answers.{wrongAt, wrongCount}
+use Rattle.problem.specs.Answers.{wrongAt, wrongCount}
 use Rattle.enlargement.specs.Enlargement.{rowBytes, StandsAt, sameBytes, furtherRow, furtherWrong}
 use Rattle.enlargement.proofs.RowBytes.{bytes-equal, equal-bytes, same-point, same-wrong}
 

@@ -9,12 +9,13 @@ use lib.ListN.{getD, take, drop}
 use lib.Seq.{getD-take, getD-drop}
 use borrow.Author.Tests.{eqb-true, eq-eqb}
 use Rattle.format.specs.Numbers.{numberFrom}
+use Rattle.format.specs.Bounds.{primeOf}
 use Rattle.field.specs.Primes.{modulusOf}
 use Rattle.header.specs.Header.{boundsOf}
 use Rattle.rows.specs.Rows.{numberAt, jobPoint, jobValue}
-use Rattle.judge.specs.Rows.{wrongRow}
-use Rattle.judge.proofs.Rows.{wrong-same}
-use Rattle.recovery.specs.Answers.{jobPrime, wrongAt}
+use Rattle.problem.specs.Rows.{wrongRow}
+use Rattle.problem.specs.Answers.{wrongAt}
+use Rattle.problem.proofs.Rows.{wrong-same}
 use Rattle.enlargement.specs.Enlargement.{rowBytes, StandsAt, sameBytes}
 
 -- the test on bytes is equality
@@ -64,6 +65,6 @@ module _ (s s' : List ℕ) (outputs : boundsOf s' .outputs ≡ boundsOf s .outpu
   pub same-wrong : boundsOf s' .prime ≡ boundsOf s .prime → (f : ℕ → List ℕ) (g : List ℕ) (i j : ℕ) → StandsAt s i s' j
       → wrongAt s f g i ≡ wrongAt s' f g j
   same-wrong prime f g i j e =
-      ap (λ x. wrongRow (jobPrime s) (boundsOf s .outputs) x (jobValue s i) f g) (same-point i j e)
-      ∙ wrong-same (jobPrime s) (jobPoint s' j) (boundsOf s .outputs) f f g g (λ k l. same-number i j (1 + k) (omega arith) e) (λ k l m. refl) (λ m. refl)
+      ap (λ x. wrongRow (primeOf (boundsOf s)) (boundsOf s .outputs) x (jobValue s i) f g) (same-point i j e)
+      ∙ wrong-same (primeOf (boundsOf s)) (jobPoint s' j) (boundsOf s .outputs) f f g g (λ k l. same-number i j (1 + k) (omega arith) e) (λ k l m. refl) (λ m. refl)
       ∙ ap₂ (λ q n. wrongRow (modulusOf q) n (jobPoint s' j) (jobValue s' j) f g) (sym prime) (sym outputs)

@@ -8,21 +8,23 @@ use native.Mathlib.Decide.{ℕ-discrete}
 use native.Mathlib.Omega.{arith}
 use lib.ListN.{length}
 use Rattle.format.specs.Numbers.{wordFrom}
-use Rattle.format.specs.declared.Outcome.{Outcome}
+use Rattle.format.specs.declared.Report.{Report}
+use Rattle.format.specs.Bounds.{primeOf}
 use Rattle.field.specs.Primes.{modulusOf}
 use Rattle.poly.specs.Coefficients.{at}
 use Rattle.header.specs.Header.{boundsOf}
 use Rattle.job.proofs.Facts.{WellFormedFacts, well-formed-facts}
 use Rattle.word.specs.Word.{bitAt}
 use Rattle.word.proofs.Words.{bit-exactly}
-use Rattle.recovery.specs.Answers.{jobPrime, wrongAt, wrongCount, Within, Reduced}
+use Rattle.problem.specs.Reduced.{Reduced}
+use Rattle.problem.specs.Answers.{wrongAt, wrongCount, Within}
 use Rattle.recovery.specs.Recovery.{Settled}
 use Rattle.enlargement.specs.Enlargement.{AnsweredWith, Named, StandsAt, furtherRow, furtherWrong, MarkedAt, Enlarged, Comparable, EnlargementRule}
 use Rattle.enlargement.proofs.RowBytes.{same-wrong}
 use Rattle.enlargement.proofs.Exactly.{answered-named, named-answered, answered-word}
 use Rattle.enlargement.proofs.Enlarging.{wrong-adds, old-or-new}
 
-module _ {s area : List ℕ} {r : Outcome} {after : List ℕ} (S : Settled s area r after) {s' area' : List ℕ} {r' : Outcome} {after' : List ℕ}
+module _ {s area : List ℕ} {r : Report} {after : List ℕ} (S : Settled s area r after) {s' area' : List ℕ} {r' : Report} {after' : List ℕ}
     (S' : Settled s' area' r' after') (f : ℕ → List ℕ) (g : List ℕ) (k : ℕ) (answered : AnsweredWith s r after f g k) (C : Comparable s s' area' f g) where
   N : Named s area f g k
   N = answered-named s area r after S answered
@@ -33,11 +35,11 @@ module _ {s area : List ℕ} {r : Outcome} {after : List ℕ} (S : Settled s are
   W' : WellFormedFacts s' (length area')
   W' = well-formed-facts s' (length area') (C .well-formed)
 
-  same-prime : jobPrime s' ≡ jobPrime s
+  same-prime : primeOf (boundsOf s') ≡ primeOf (boundsOf s)
   same-prime = ap modulusOf (C .prime)
 
   -- f and g are within the bounds of T'
-  within : Within s' f g
+  within : Within (boundsOf s') f g
   within = record {
     numerators = λ i l. record {
       residues = λ m. subst (λ p. at (f i) m < p) (sym same-prime) (N .answer .within .numerators i (lower i l) .residues m);
@@ -52,8 +54,8 @@ module _ {s area : List ℕ} {r : Outcome} {after : List ℕ} (S : Settled s are
       lower : (i : ℕ) → i < boundsOf s' .outputs → i < boundsOf s .outputs
       lower i l = let e = C .outputs in omega arith
 
-  reduced : Reduced (jobPrime s') (boundsOf s' .outputs) f g
-  reduced = subst (λ n. Reduced (jobPrime s') n f g) (sym (C .outputs)) (subst (λ p. Reduced p (boundsOf s .outputs) f g) (sym same-prime) (N .answer .reduced))
+  reduced : Reduced (primeOf (boundsOf s')) (boundsOf s' .outputs) f g
+  reduced = subst (λ n. Reduced (primeOf (boundsOf s')) n f g) (sym (C .outputs)) (subst (λ p. Reduced p (boundsOf s .outputs) f g) (sym same-prime) (N .answer .reduced))
 
   -- k + w
   together : wrongCount s' f g ≡ k + furtherWrong s s' f g
@@ -116,6 +118,6 @@ module _ {s area : List ℕ} {r : Outcome} {after : List ℕ} (S : Settled s are
   pub enlarged : Enlarged s after s' r' after' f g k
   enlarged = record { exactly = exactly; count = count; ones = ones; zeros = zeros }
 
-pub enlargement : {s area : List ℕ} {r : Outcome} {after : List ℕ} → Settled s area r after → {s' area' : List ℕ} {r' : Outcome} {after' : List ℕ}
+pub enlargement : {s area : List ℕ} {r : Report} {after : List ℕ} → Settled s area r after → {s' area' : List ℕ} {r' : Report} {after' : List ℕ}
     → Settled s' area' r' after' → EnlargementRule s r after s' area' r' after'
 enlargement S S' f g k w C = enlarged S S' f g k w C

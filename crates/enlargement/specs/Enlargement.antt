@@ -1,5 +1,5 @@
 -- Paper 01, "What a contract here has to settle", point 5: demand 3, the enlargement rule, about any two jobs T and T'. Here s and s'
--- are their bytes, r and after what the call for T returned and left in its area, r' and after' the same for T'.
+-- are their bytes, r and after what the call for T reported and left in its area, r' and after' the same for T'.
 use mathlib.Core.Path.{_≡_}
 use mathlib.Core.Bool.{Bool, true, false, not, _&&_}
 use mathlib.Core.Logic.{_⊎_, _↔_}
@@ -8,8 +8,7 @@ use Prim.Native.Nat.{ℕ, _+_, _*_, _≤_, _<_}
 use lib.Dec.{eqb}
 use lib.ListN.{length, take, drop}
 use Rattle.format.specs.Numbers.{numberFrom, wordFrom}
-use Rattle.format.specs.declared.Outcome.{Outcome}
-use Rattle.format.specs.declared.Outcome.the-variants.{Recovered}
+use Rattle.format.specs.declared.Report.{Report}
 use Rattle.format.specs.Bounds.{numeratorBoundOf}
 use Rattle.poly.specs.Coefficients.{at}
 use Rattle.row_search.specs.Search.{anyBelow}
@@ -17,7 +16,7 @@ use Rattle.header.specs.Header.{boundsOf}
 use Rattle.job.specs.Refusals.{WellFormed}
 use Rattle.word.specs.Word.{bitAt, countBelow}
 use Rattle.answer.specs.Bytes.{numeratorStart}
-use Rattle.recovery.specs.Answers.{Answer, wrongAt, wrongCount}
+use Rattle.problem.specs.Answers.{Answer, wrongAt, wrongCount}
 use Rattle.recovery.specs.Recovery.{Settled}
 
 -- no coefficient of f and g stands above the job's degree bounds
@@ -34,10 +33,10 @@ pub record Lists (s after : List ℕ) (f : ℕ → List ℕ) (g : List ℕ) : Ty
 
 -- "A job is answered with f/g and k wrong rows when its call isn't refused, its sheet lists the coefficients of this g and these fi, and
 -- it returns k as the count of wrong rows"
-pub record AnsweredWith (s : List ℕ) (r : Outcome) (after : List ℕ) (f : ℕ → List ℕ) (g : List ℕ) (k : ℕ) : Type 0 where
-  pub bytes : ℕ
-  pub outcome : r ≡ Recovered bytes k
+pub record AnsweredWith (s : List ℕ) (r : Report) (after : List ℕ) (f : ℕ → List ℕ) (g : List ℕ) (k : ℕ) : Type 0 where
+  pub not-refused : r .refusal ≡ 0
   pub lists : Lists s after f g
+  pub count : r .wrong ≡ k
 
 -- "the job is well formed and f/g is the reduced vector that demand 2 names for it, with k wrong rows"
 pub record Named (s area : List ℕ) (f : ℕ → List ℕ) (g : List ℕ) (k : ℕ) : Type 0 where
@@ -46,7 +45,7 @@ pub record Named (s area : List ℕ) (f : ℕ → List ℕ) (g : List ℕ) (k : 
   pub count : wrongCount s f g ≡ k
 
 -- "this is so exactly when .., and that belongs to the claim"
-abbrev pub AnsweredExactly : List ℕ → List ℕ → Outcome → List ℕ → Type 0
+abbrev pub AnsweredExactly : List ℕ → List ℕ → Report → List ℕ → Type 0
 AnsweredExactly s area r after = (f : ℕ → List ℕ) (g : List ℕ) (k : ℕ) → AnsweredWith s r after f g k ↔ Named s area f g k
 
 -- the bytes of row i
@@ -84,7 +83,7 @@ MarkedAt s after s' f g j =
 
 -- T' is answered with f/g exactly if k + w is at most its E; where it is, the count is k + w, and the word has a 1 at those places and
 -- "0 everywhere else"
-pub record Enlarged (s after s' : List ℕ) (r' : Outcome) (after' : List ℕ) (f : ℕ → List ℕ) (g : List ℕ) (k : ℕ) : Type 0 where
+pub record Enlarged (s after s' : List ℕ) (r' : Report) (after' : List ℕ) (f : ℕ → List ℕ) (g : List ℕ) (k : ℕ) : Type 0 where
   pub exactly : ((c : ℕ) × AnsweredWith s' r' after' f g c) ↔ (k + furtherWrong s s' f g ≤ boundsOf s' .errors)
   pub count : (c : ℕ) → AnsweredWith s' r' after' f g c → c ≡ k + furtherWrong s s' f g
   pub ones : (c : ℕ) → AnsweredWith s' r' after' f g c → (j : ℕ) → j < boundsOf s' .rows → MarkedAt s after s' f g j
@@ -101,12 +100,12 @@ pub record Comparable (s s' area' : List ℕ) (f : ℕ → List ℕ) (g : List �
   pub meets : Meets s' f g
 
 -- the enlargement rule
-abbrev pub EnlargementRule : List ℕ → Outcome → List ℕ → List ℕ → List ℕ → Outcome → List ℕ → Type 0
+abbrev pub EnlargementRule : List ℕ → Report → List ℕ → List ℕ → List ℕ → Report → List ℕ → Type 0
 EnlargementRule s r after s' area' r' after' =
     (f : ℕ → List ℕ) (g : List ℕ) (k : ℕ) → AnsweredWith s r after f g k → Comparable s s' area' f g → Enlarged s after s' r' after' f g k
 
 -- demand 3 as one claim about two calls: what each settles, when each has answered its job, and the rule
-pub record TwoCalls (s area : List ℕ) (r : Outcome) (after s' area' : List ℕ) (r' : Outcome) (after' : List ℕ) : Type 0 where
+pub record TwoCalls (s area : List ℕ) (r : Report) (after s' area' : List ℕ) (r' : Report) (after' : List ℕ) : Type 0 where
   pub first : Settled s area r after
   pub second : Settled s' area' r' after'
   pub first-answered : AnsweredExactly s area r after

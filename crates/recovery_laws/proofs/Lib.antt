@@ -1,2 +1,1 @@
-pub mod SameFractions
 pub mod Laws
