@@ -2,6 +2,7 @@
 use mathlib.Core.Path.{_≡_, refl, ap, subst}
 use mathlib.Core.List.{List, [], _∷_, map}
 use Prim.Native.Nat.{ℕ}
+use lib.ListN.{length}
 use Rattle.poly.specs.Coefficients.{tabulate}
 use Rattle.poly.specs.Operations.{
   valueOf,
@@ -43,21 +44,22 @@ use Rattle.header.specs.Header.{boundsOf, spareBitOf}
 use Rattle.row_search.specs.Search.{firstBelow}
 use Rattle.rows.specs.Rows.{numberAt, jobPoints, jobValues}
 use Rattle.job.specs.Refusals.{outcomeOfRows, outcomeOf}
-use Rattle.judge.specs.Rows.{wrongRow}
+use Rattle.problem.specs.Rows.{wrongRow}
 use Rattle.word.specs.Word.{wordOf, countBelow}
-use Rattle.answer.specs.Bytes.{coefficientBytes, outputBytes}
-use Rattle.format.specs.declared.Outcome.{Outcome}
+use Rattle.answer.specs.Bytes.{coefficientBytes, outputBytes, overwritten}
+use Rattle.format.specs.declared.Report.{Report}
 use Rattle.recovery.specs.Recovery.{Settled}
 use Rattle.solver.specs.Solutions.{unsolvedSolution, wordBy, countedSolution, judgedSolution}
 use Rattle.recovery_laws.proofs.Laws.{settled-unique}
 use Rattle.hand_examples.specs.Table.{Example, table, Holds, EveryHolds}
+use Rattle.hand_examples.specs.Enlargement.{larger}
 use Rattle.hand_examples.proofs.Model.{Result, resultOf, result-settled}
 
 abbrev computed : Example → Result
-computed e = resultOf (e .job) (e .before)
+computed e = resultOf (e .job) (e .room)
 
 abbrev expected : Example → Result
-expected e = record { outcome = e .outcome; after = e .after }
+expected e = record { report = e .report; bytes = e .bytes }
 
 -- the first of a list, and the others
 abbrev firstOr : Result → List Result → Result
@@ -72,11 +74,16 @@ others (x ∷ xs) = xs
 each : (l : List Example) → map computed l ≡ map expected l → EveryHolds l
 each [] h = tt
 each (e ∷ l) h = (
-  subst (λ r. Settled (e .job) (e .before) (r .outcome) (r .after)) (ap (firstOr (computed e)) h) (result-settled (e .job) (e .before)),
+  (λ area n. subst (λ r. Settled (e .job) area (r .report) (overwritten (r .bytes) area)) (ap (firstOr (computed e)) h)
+      (result-settled (e .job) area (e .room) n)),
   each l (ap others h),
 )
 
-as-expected : map computed table ≡ map expected table
+-- H1 to H12, and before them the larger job of the enlargement rule's example
+abbrev all : List Example
+all = larger ∷ table
+
+as-expected : map computed all ≡ map expected all
 unfolding table resultOf outcomeOf outcomeOfRows headerOf boundsOf spareBitOf firstBelow numberAt jobPoints jobValues tabulate judgedSolution
     countedSolution unsolvedSolution wordBy candidateAfter nextOf withFraction extendedOf withOutput raisedBelow raisedAt columnOf columnAt
     startCandidate unsolvableCandidate pairsAfter stepBy startOf smallerOf combinedOf advancedOf discrepancyOf valueOf combinationOf
@@ -85,11 +92,14 @@ unfolding table resultOf outcomeOf outcomeOfRows headerOf boundsOf spareBitOf fi
     cancelledAt shifted reciprocalOf leastFrom wrongRow wordOf countBelow coefficientBytes outputBytes
 as-expected = refl
 
+pub all-hold : EveryHolds all
+all-hold = each all as-expected
+
 -- H1 to H12
 pub hand-examples : EveryHolds table
-hand-examples = each table as-expected
+hand-examples = all-hold .1
 
--- and a call of the recovery for a job of the table returns and leaves nothing else
-pub only-result : (e : Example) → Holds e → {r : Outcome} {after : List ℕ} → Settled (e .job) (e .before) r after
-    → (r ≡ e .outcome) × (after ≡ e .after)
-only-result e h S = settled-unique (e .job) (e .before) S h
+-- and a call of the recovery for a job of the table reports and leaves nothing else
+pub only-result : (e : Example) → Holds e → (area : List ℕ) → length area ≡ e .room → {r : Report} {after : List ℕ} → Settled (e .job) area r after
+    → (r ≡ e .report) × (after ≡ overwritten (e .bytes) area)
+only-result e h area n S = settled-unique (e .job) area S (h area n)

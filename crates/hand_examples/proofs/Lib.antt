@@ -1,2 +1,3 @@
-pub mod Model
+mod Model
 pub mod Examples
+pub mod Enlargement

@@ -1,36 +1,32 @@
 -- Paper 01, the jobs checked by hand: H1 to H12 as one table, with one claim over it. Numbers are hexadecimal, as they stand there.
+use mathlib.Core.Path.{_≡_}
 use mathlib.Core.List.{List, [], _∷_, _++_}
 use Prim.Native.Nat.{ℕ}
-use lib.ListN.{replicate}
-use Rattle.format.specs.declared.Reason.the-variants.{OutOfRange, AreaTooShort, NoAnswer}
-use Rattle.format.specs.declared.Outcome.{Outcome}
-use Rattle.format.specs.declared.Outcome.the-variants.{Recovered, Refused}
-use Rattle.answer.specs.Bytes.{twoBytes}
+use lib.ListN.{length}
+use Rattle.format.specs.declared.Report.{Report}
+use Rattle.format.specs.Outcomes.{refusedReport, recoveredReport}
+use Rattle.answer.specs.Bytes.{twoBytes, overwritten}
 use Rattle.recovery.specs.Recovery.{Settled}
 
--- a job's bytes, the answer area before the call, what is returned, and the area after it
+-- a job's bytes, the length of the answer area, what is reported in paper 01's numbers, and the bytes that are written
 pub record Example : Type 0 where
   pub job : List ℕ
-  pub before : List ℕ
-  pub outcome : Outcome
-  pub after : List ℕ
+  pub room : ℕ
+  pub report : Report
+  pub bytes : List ℕ
 
 -- the bytes of numbers of 16 bits
 abbrev pub numbers : List ℕ → List ℕ
 numbers [] = []
 numbers (v ∷ vs) = twoBytes v ++ numbers vs
 
--- an area of so many bytes, filled with a pattern
-abbrev pub pattern : ℕ → List ℕ
-pattern bytes = replicate bytes 0xA5
-
 -- a job with an answer, in an area that is exactly as long as it
 abbrev pub answered : List ℕ → (bytes wrong : ℕ) → List ℕ → Example
-answered job bytes wrong after = record { job = job; before = pattern bytes; outcome = Recovered bytes wrong; after = numbers after }
+answered job bytes wrong answer = record { job = job; room = bytes; report = recoveredReport bytes wrong; bytes = numbers answer }
 
--- a refused job, with the area untouched
-abbrev pub refused : List ℕ → ℕ → Outcome → Example
-refused job bytes outcome = record { job = job; before = pattern bytes; outcome = outcome; after = pattern bytes }
+-- a job refused with this number and row 0
+abbrev pub refused : List ℕ → (room number : ℕ) → Example
+refused job room number = record { job = job; room = room; report = refusedReport number 0; bytes = [] }
 
 -- H1's header and points, with these three values
 abbrev pub three : ℕ → ℕ → ℕ → List ℕ
@@ -57,24 +53,24 @@ table =
     ∷ answered (three 0 0 3) 8 1 (0x2000 ∷ 0x0000 ∷ 0x0001 ∷ 0x0000 ∷ [])
     -- H6: 1, and H7: none
     ∷ answered (linear 1 1 1) 12 0 (0x0000 ∷ 0x0000 ∷ 0x0001 ∷ 0x0000 ∷ 0x0001 ∷ 0x0000 ∷ [])
-    ∷ refused (linear 1 1 2) 12 (Refused NoAnswer 0)
+    ∷ refused (linear 1 1 2) 12 8
     -- H8: g = 1 + u, f1 = 1, f2 = u
     ∷ answered
     (0x11 ∷ 0x84 ∷ 0x20 ∷ numbers (0x0000 ∷ 0x0001 ∷ 0x0000 ∷ 0x0001 ∷ 0x0004 ∷ 0x0004 ∷ 0x0002 ∷ 0x0005 ∷ 0x0003 ∷ []))
     16 0 (0x0000 ∷ 0x0000 ∷ 0x0001 ∷ 0x0001 ∷ 0x0001 ∷ 0x0000 ∷ 0x0000 ∷ 0x0001 ∷ [])
     -- H9: none
-    ∷ refused (three 5 4 2) 8 (Refused NoAnswer 0)
+    ∷ refused (three 5 4 2) 8 8
     -- H10 and H11: the largest value modulo 65521, and one that is too large
     ∷ answered (0xC0 ∷ 0x80 ∷ 0x00 ∷ numbers (0x0000 ∷ 0xFFF0 ∷ [])) 8 0 (0x0000 ∷ 0x0000 ∷ 0x0001 ∷ 0xFFF0 ∷ [])
-    ∷ refused (0xC0 ∷ 0x80 ∷ 0x00 ∷ numbers (0x0000 ∷ 0xFFF1 ∷ [])) 8 (Refused OutOfRange 0)
+    ∷ refused (0xC0 ∷ 0x80 ∷ 0x00 ∷ numbers (0x0000 ∷ 0xFFF1 ∷ [])) 8 5
     -- H12: H1's job with an area of 7 bytes, and of 8
-    ∷ refused (three 5 5 2) 7 (Refused AreaTooShort 0)
+    ∷ refused (three 5 5 2) 7 7
     ∷ answered (three 5 5 2) 8 1 (0x2000 ∷ 0x0000 ∷ 0x0001 ∷ 0x0005 ∷ [])
     ∷ []
 
--- what a call returns and leaves in the area, by demands 1 and 2
+-- what a call reports and leaves in the area, by demands 1 and 2: for every area of that length, whatever it holds
 abbrev pub Holds : Example → Type 0
-Holds e = Settled (e .job) (e .before) (e .outcome) (e .after)
+Holds e = (area : List ℕ) → length area ≡ e .room → Settled (e .job) area (e .report) (overwritten (e .bytes) area)
 
 -- the claim: so it is at every entry
 abbrev pub EveryHolds : List Example → Type 0
