@@ -8,6 +8,7 @@ use lib.ListN.{length, drop, length-append}
 use lib.Seq.{length-take-le}
 use Rattle.format.specs.declared.Bounds.{Bounds}
 use Rattle.format.specs.declared.Outcome.{Outcome}
+use Rattle.format.specs.Outcomes.{reportOf}
 use Rattle.format.specs.declared.Outcome.the-variants.{Accepted, Recovered, Refused}
 use Rattle.header.specs.Header.{boundsOf}
 use Rattle.header.proofs.Fields.{narrow}
@@ -49,7 +50,7 @@ module _
   pub always-written : w ≡ Bytes (length (textOf b outcome left))
   always-written = answer ∙ sym (told .0)
 
-  pub printed : Settled s area outcome left → (n : ℕ) → w ≡ Bytes n → Printed s area left old n after
+  pub printed : Settled s area (reportOf outcome) left → (n : ℕ) → w ≡ Bytes n → Printed s area left old n after
   printed settled n is =
       let text = textFor s (length area) outcome left in
       let same : textOf b outcome left ≡ text = ap (λ bounds. textOf bounds outcome left) known in

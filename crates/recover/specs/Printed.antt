@@ -4,6 +4,7 @@ use mathlib.Core.Path.{_≡_}
 use mathlib.Core.List.{List}
 use lib.ListN.{length}
 use Rattle.format.specs.declared.Outcome.{Outcome}
+use Rattle.format.specs.Outcomes.{reportOf}
 use Rattle.job.specs.Reading.{readingOf}
 use Rattle.answer.specs.Bytes.{overwritten}
 use Rattle.recovery.specs.Recovery.{Settled}
@@ -18,7 +19,7 @@ textFor s room outcome left = textOf (readingOf s room .bounds) outcome left
 -- then holds their text and what lay behind it, and n is the text's length.
 pub record Printed (s area left old : List ℕ) (n : ℕ) (after : List ℕ) : Type 0 where
   pub outcome : Outcome
-  pub settled : Settled s area outcome left
+  pub settled : Settled s area (reportOf outcome) left
   pub size : n ≡ length (textFor s (length area) outcome left)
   pub written : after ≡ overwritten (textFor s (length area) outcome left) old
   -- so that the text can be lent from the buffer

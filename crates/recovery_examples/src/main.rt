@@ -72,9 +72,9 @@ fn show_numbers(word: &[u8], first: u32, second: u32) {
 }
 
 fn show_outcome(outcome: format::Outcome) {
-    let report = format::numbers(outcome);
+    let report = format::reported(outcome);
     if report.refusal == 0 {
-        show_numbers(b" recovered ", report.bytes, report.wrong);
+        show_numbers(b" recovered ", report.written, report.wrong);
         return;
     }
     show_numbers(b" refused ", report.refusal, report.row);
