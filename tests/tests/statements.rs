@@ -35,7 +35,7 @@ fn definitions() -> Vec<(String, String, String)> {
 #[test]
 fn the_page_is_as_the_files_have_it_and_complete() {
     let found = found(&page());
-    let help = "`cargo run --offline --release --bin statements` shows what to put in, with `--write` it refreshes what is there";
+    let help = "`cargo run --offline --release --no-default-features --bin statements` shows what to put in, with `--write` it refreshes what is there";
     assert!(found.is_empty(), "{}\n{help}", found.join("\n"));
 }
 

@@ -1,4 +1,4 @@
-//! Says what `docs/STATEMENTS.md` lacks or shows otherwise than the files: `cargo run --offline --release --bin statements`.
+//! Says what `docs/STATEMENTS.md` lacks or shows otherwise than the files: `cargo run --offline --release --no-default-features --bin statements`.
 //! With `--write` the definitions on the page are written anew from their files first.
 
 use outside_checks::statements::{
