@@ -13,6 +13,7 @@ pub mod plain;
 pub mod program;
 pub mod readable;
 pub mod second;
+pub mod statements;
 
 use library::Report;
 

@@ -1,4 +1,4 @@
-// METHOD: the outputs one after the other. After each one the candidate holds the only fractions, over their common denominator,
+// docs/METHOD.md, section 2: the outputs one after the other. After each one the candidate holds the only fractions, over their common denominator,
 // that an answer can have there; or it is known that there is no answer.
 ghost use Rattle.format.specs.Bounds.{Sized, primeOf};
 ghost use Prim.Native.Nat.{_<_};

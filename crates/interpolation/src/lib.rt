@@ -1,4 +1,4 @@
-// METHOD: two pairs of polynomials, one row at a time. After the rows one of the pairs is (a, b), not both zero, with
+// docs/METHOD.md, section 1: two pairs of polynomials, one row at a time. After the rows one of the pairs is (a, b), not both zero, with
 // a(x) = z b(x) at every row (x, z), a of degree at most A and b of degree at most B, for as many rows as A + B + 1.
 // The discrepancies a(x) - z b(x) of both pairs are kept for all rows and changed as the pairs are, so that no polynomial is evaluated.
 ghost use Prim.Native.Nat.{ℕ, _+_, _-_, _%_, _≤_, _<_};

@@ -1,4 +1,4 @@
--- METHOD.md, section 3: for an answer (f, g) that is a multiple of the fractions found so far, f_i psi and q phi agree at
+-- docs/METHOD.md, section 3: for an answer (f, g) that is a multiple of the fractions found so far, f_i psi and q phi agree at
 -- every right row, so they are equal; and q can be divided by the new denominator.
 use mathlib.Core.Path.{_≡_, sym, _∙_, ap, ap₂, subst}
 use mathlib.Core.Logic.{_≢_, _⊎_, inl, inr}

@@ -1,4 +1,4 @@
--- METHOD.md, section 3: the candidate at the end is the answer or there is none, so there is at most one answer and its
+-- docs/METHOD.md, section 3: the candidate at the end is the answer or there is none, so there is at most one answer and its
 -- existence is decided.
 use mathlib.Core.Path.{_≡_, refl, sym, _∙_, ap, subst}
 use mathlib.Core.Logic.{_⊎_, inl, inr}

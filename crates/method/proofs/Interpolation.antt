@@ -1,4 +1,4 @@
--- METHOD.md, section 1: two pairs of polynomials, one row at a time.
+-- docs/METHOD.md, section 1: two pairs of polynomials, one row at a time.
 -- Each line of its table is a theorem that keeps the invariant; `step` and `run` are the loop.
 use mathlib.Core.Path.{_≡_, refl, _∙_, ap}
 use mathlib.Core.Logic.{_≢_}
@@ -106,7 +106,7 @@ module _ (R : Ring) where
         none : (c d c' d' : Carrier) → d ≡ null → d' ≡ null → c ⊗ d ⊕ ⊖ (c' ⊗ d') ≡ null
         none c d c' d' h h' = rw (h, h') (simp ring)
 
-  -- the invariant after k rows; the numbers are those of METHOD.md
+  -- the invariant after k rows; the numbers are those of docs/METHOD.md, section 1
   pub record Invariant (A B N : ℕ) (row : ℕ → Condition R) (k : ℕ) (s : Pairs R) : Type 0 where
     -- 1 and 5
     pub pair0 : Agrees N row k (s .a0) (s .b0)

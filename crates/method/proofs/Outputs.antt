@@ -1,4 +1,4 @@
--- METHOD.md, section 2: all outputs, one after the other. What the loop holds after i outputs, and each of its steps as a
+-- docs/METHOD.md, section 2: all outputs, one after the other. What the loop holds after i outputs, and each of its steps as a
 -- theorem on any solution, any fraction in lowest terms and any family that continues the one before.
 use mathlib.Core.Path.{_≡_, sym, _∙_, ap, subst}
 use mathlib.Core.Logic.{_≢_, inl, inr}

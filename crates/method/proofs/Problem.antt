@@ -152,7 +152,7 @@ module _ (F : Field) where
   abbrev pub points : Problem R → ℕ → R .Carrier
   points T l = T .row l .point
 
-  -- distinct points, and rows enough: A and B = dg + E are the degrees of section 2 of METHOD.md
+  -- distinct points, and rows enough: A and B = dg + E are the degrees of docs/METHOD.md, section 2
   pub record Ample (T : Problem R) : Type 0 where
     pub distinct : Distinct F (points T) (T .count)
     pub A : ℕ

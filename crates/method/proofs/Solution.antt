@@ -1,4 +1,4 @@
--- METHOD.md, section 1, the end: after A + B + 1 rows the pair with the smaller number is a solution that is not null.
+-- docs/METHOD.md, section 1, the end: after A + B + 1 rows the pair with the smaller number is a solution that is not null.
 use mathlib.Core.Path.{_≡_, sym, _∙_, ap}
 use mathlib.Core.Logic.{_≢_}
 use Prim.Native.Nat.{ℕ, suc, _+_, _-_, _≤_, _<_}

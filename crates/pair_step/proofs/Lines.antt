@@ -1,4 +1,4 @@
--- The lines of METHOD's table: what the code does in each of its cases is a step.
+-- The lines of the table in docs/METHOD.md, section 1: what the code does in each of its cases is a step.
 use mathlib.Core.Path.{_≡_, refl, _∙_}
 use mathlib.Core.Bool.{Bool, true, false, cond}
 use mathlib.Core.List.{List}

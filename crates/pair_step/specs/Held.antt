@@ -126,13 +126,13 @@ Leads m c first second Second = (c ≡ 0 → ⊥) × ((m ≡ 0 → ⊥) → leb 
 abbrev pub Kept : (p : ℕ) (points z : List ℕ) («from» rows : ℕ) (s : Pair) (d : List ℕ) → Type 0
 Kept p points z «from» rows s d = (l : ℕ) → «from» ≤ l → l < rows → at d l ≡ discrepancyOf p (at points l) (at z l) s
 
--- METHOD's table for one of the pairs, by its own discrepancy m at the row and that of the other pair, c, and by whether it leads: it stays,
+-- The table of docs/METHOD.md for one of the pairs, by its own discrepancy m at the row and that of the other pair, c, and by whether it leads: it stays,
 -- is multiplied by (u - x), or is combined with the other
 unfoldable pub lineOf : {A : Type 0} → (m c : ℕ) (leads : Bool) (stays multiplied combined : A) → A
 lineOf m c leads stays multiplied combined = cond (eqb m 0) stays (cond (eqb c 0) multiplied (cond leads multiplied combined))
 
 -- One of the pairs, (a, b) with its discrepancies d, beside the other, (s, t) with e, and by whether it leads where both have a discrepancy:
--- METHOD's line for it; its number, its length and the entries written, and every entry of its discrepancies; and at the row and behind it
+-- The line of docs/METHOD.md for it; its number, its length and the entries written, and every entry of its discrepancies; and at the row and behind it
 -- the discrepancies are still those of the pair.
 pub record Lined (r : Row) (ps vs xs : List ℕ) (leads : Bool) (u : Side) (a b d : List ℕ) (w : Side) (s t e : List ℕ) (u′ : Side) (a′ b′ d′ : List ℕ) : Type 0 where
   pub pair : pairOf a′ b′ (u′ .e)

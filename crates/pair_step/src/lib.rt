@@ -1,4 +1,4 @@
-// METHOD: two pairs of polynomials, and what one row does to them and to their discrepancies at all rows, changed in place.
+// docs/METHOD.md, section 1: two pairs of polynomials, and what one row does to them and to their discrepancies at all rows, changed in place.
 ghost use Prim.Native.Nat.{_≤_, _<_};
 ghost use mathlib.Core.Path.{_≡_};
 ghost use Rattle.field.specs.Primes.{modulusOf};

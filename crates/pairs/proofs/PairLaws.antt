@@ -55,7 +55,7 @@ module _ (p x d0 d1 : ℕ) (s : Pairs) where
   unfolding advancedOf combinedOf
   second-rises = step-most second-number _ (omega arith) (omega arith) (omega arith) (omega arith) (omega arith)
 
-  -- the lines of METHOD.md's table, as the code makes them
+  -- the lines of the table in docs/METHOD.md, section 1, as the code makes them
   pub step-both : d0 ≡ 0 → d1 ≡ 0 → s ≡ stepBy p x d0 d1 s
   unfolding stepBy
   step-both z0 z1 = simp (eq-eqb _ _ z0, eq-eqb _ _ z1)

@@ -1,4 +1,4 @@
--- The pairs that the code makes, row by row, are those of METHOD.md's section 1 over the residues modulo p.
+-- The pairs that the code makes, row by row, are those of docs/METHOD.md, section 1, over the residues modulo p.
 use mathlib.Core.Path.{_≡_, refl, sym, _∙_, ap, ap₂, subst}
 use mathlib.Core.Logic.{_≢_}
 use mathlib.Core.List.{List}

@@ -1,4 +1,4 @@
--- After k rows the arrays hold the pairs of METHOD, and their discrepancies at the rows from k on.
+-- After k rows the arrays hold the pairs of docs/METHOD.md, and their discrepancies at the rows from k on.
 use mathlib.Core.Path.{_≡_, refl}
 use Prim.Native.Nat.{_+_, _-_, _≤_, _<_}
 use Rattle.field.specs.Primes.{modulusOf}

@@ -1,4 +1,4 @@
--- METHOD: acc * a leaves b modulo p, and b falls to 1.
+-- docs/METHOD.md, section 6: acc * a leaves b modulo p, and b falls to 1.
 use Prim.Native.Nat.{_*_, _-_, _/_, _%_, _<_}
 use mathlib.Core.Path.{_≡_, sym, ap, subst, _∙_}
 use native.Mathlib.Nat.{div-le-self, mod-eq-of-lt, mod-lt, one-mul}
