@@ -45,42 +45,40 @@ module _ (R : Ring) where
       ∙ value-linear-mul R (suc k) f x y h
       ∙ ap (λ t. (y ⊕ ⊖ x) ⊗ t) (sym (value-stable R (suc k) N f y h (omega arith)))
 
-  -- f[m] = 0 where e ≤ m + B
-  abbrev pub NullFrom : Series R → ℕ → ℕ → Type 0
-  NullFrom f e B = (m : ℕ) → e ≤ m + B → f m ≡ null
+  -- f[m] = 0 where e ≤ m + A
+  abbrev NullFrom : Series R → ℕ → ℕ → Type 0
+  NullFrom f e A = (m : ℕ) → e ≤ m + A → f m ≡ null
 
-  -- f[e - B] is not 0, and B ≤ e
-  pub record LeadsAt (f : Series R) (e B : ℕ) : Type 0 where
-    pub fits : B ≤ e
-    pub nonnull : (t : ℕ) → t + B ≡ e → f t ≢ null
+  nullFrom-linear : (x : Carrier) (f : Series R) (e A : ℕ) → NullFrom f e A → NullFrom (mulS R (linear R x) f) (suc e) A
+  nullFrom-linear x f e A h zero l = rw (linear-mul-zero, h zero (omega arith)) (mul-null R _)
+  nullFrom-linear x f e A h (suc m) l = rw (linear-mul-suc, h (suc m) (omega arith), h m (omega arith)) (simp ring)
 
-  pub nullFrom-mono : (f : Series R) (e e' B : ℕ) → e ≤ e' → NullFrom f e B → NullFrom f e' B
-  nullFrom-mono f e e' B l h m l' = h m (omega arith)
+  nullFrom-combine : (c : Carrier) (f : Series R) (c' : Carrier) (g : Series R) (e A : ℕ)
+      → NullFrom f e A → NullFrom g e A → NullFrom (combine c f c' g) e A
+  nullFrom-combine c f c' g e A hf hg m l = rw (combine-at, hf m l, hg m l) (simp ring)
 
-  pub nullFrom-linear : (x : Carrier) (f : Series R) (e B : ℕ) → NullFrom f e B → NullFrom (mulS R (linear R x) f) (suc e) B
-  nullFrom-linear x f e B h zero l = rw (linear-mul-zero, h zero (omega arith)) (mul-null R _)
-  nullFrom-linear x f e B h (suc m) l = rw (linear-mul-suc, h (suc m) (omega arith), h m (omega arith)) (simp ring)
-
-  pub nullFrom-combine : (c : Carrier) (f : Series R) (c' : Carrier) (g : Series R) (e B : ℕ)
-      → NullFrom f e B → NullFrom g e B → NullFrom (combine c f c' g) e B
-  nullFrom-combine c f c' g e B hf hg m l = rw (combine-at, hf m l, hg m l) (simp ring)
-
-  pub nullFrom-constS : (c : Carrier) (B : ℕ) → NullFrom (constS R c) (suc B) B
-  nullFrom-constS c B zero l = absurd (omega arith)
-  nullFrom-constS c B (suc m) l = constS-suc R c m
-
-  pub nullFrom-nullS : (e B : ℕ) → NullFrom (nullS R) e B
-  nullFrom-nullS e B m l = nullS-at R m
+  -- a pair that leads in f: with A ≤ e, f[e - A] is not 0 and is the last coefficient of f that is not; g[m] = 0 where t + e ≤ m + B
+  pub record Leading (f : Series R) (A : ℕ) (g : Series R) (B t e : ℕ) : Type 0 where
+    pub fits : A ≤ e
+    pub top : (m : ℕ) → m + A ≡ e → f m ≢ null
+    pub f-null : (m : ℕ) → suc e ≤ m + A → f m ≡ null
+    pub g-null : (m : ℕ) → t + e ≤ m + B → g m ≡ null
 
   -- the leading coefficient of (u - x) f is that of f
-  pub leadsAt-linear : (x : Carrier) (f : Series R) (e B : ℕ) → NullFrom f (suc e) B → LeadsAt f e B → LeadsAt (mulS R (linear R x) f) (suc e) B
-  leadsAt-linear x f e B h lead = record { fits = (let l = lead .fits in omega arith); nonnull = go }
+  pub leading-linear : (x : Carrier) {f : Series R} {A : ℕ} {g : Series R} {B t e : ℕ} → Leading f A g B t e
+      → Leading (mulS R (linear R x) f) A (mulS R (linear R x) g) B t (suc e)
+  leading-linear x {f} {A} {g} {B} {t} {e} L = record {
+    fits = (let l = L .fits in omega arith);
+    top = top;
+    f-null = nullFrom-linear x f (suc e) A (L .f-null);
+    g-null = λ m l. nullFrom-linear x g (t + e) B (L .g-null) m (omega arith);
+  }
     where
-      go : (t : ℕ) → t + B ≡ suc e → mulS R (linear R x) f t ≢ null
-      go zero p q = absurd (let l = lead .fits in omega arith)
-      go (suc t) p q = lead .nonnull t (omega arith)
-          (let r : ⊖ x ⊗ f (suc t) ⊕ f t ≡ null = sym (linear-mul-suc R x f t) ∙ q in
-          simp (h (suc t) (omega arith), mul-null, null-add) at r)
+      top : (m : ℕ) → m + A ≡ suc e → mulS R (linear R x) f m ≢ null
+      top zero p q = absurd (let l = L .fits in omega arith)
+      top (suc m) p q = L .top m (omega arith)
+          (let r : ⊖ x ⊗ f (suc m) ⊕ f m ≡ null = sym (linear-mul-suc R x f m) ∙ q in
+          simp (L .f-null (suc m) (omega arith), mul-null, null-add) at r)
 
 module _ (F : Field) where
   open Field F using (ring as R, one≢null)
@@ -89,21 +87,28 @@ module _ (F : Field) where
   infixl 60 _⊕_
   infixl 70 _⊗_
   infix 80 ⊖_
-  -- the leading coefficient of c f - c' g is c times that of f, where g is shorter
-  pub leadsAt-combine : (c : Carrier) (f : Series R) (c' : Carrier) (g : Series R) (e B : ℕ) → c ≢ null
-      → NullFrom R g e B → LeadsAt R f e B → LeadsAt R (combine R c f c' g) e B
-  leadsAt-combine c f c' g e B nz short lead = record {
-    fits = lead .fits;
-    nonnull = λ t p q. lead .nonnull t p (cancel F c (f t) nz
-        (sym (alone (c ⊗ f t) c' (g t) (short t (omega arith))) ∙ sym (combine-at R c f c' g t) ∙ q));
+  -- c times a pair less c' times one that leads in the other polynomial and is shorter: the leading coefficient is c times that of f
+  pub leading-combine : {c : Carrier} (c' : Carrier) {f g f' g' : Series R} {A B t t' e e' : ℕ} → c ≢ null → Leading R f A g B t e → Leading R f' B g' A t' e'
+      → t' + e' ≤ e → suc e' ≤ t + e → Leading R (combine R c f c' g') A (combine R c g c' f') B t e
+  leading-combine {c} c' {f} {g} {f'} {g'} {A} {B} {t} {t'} {e} {e'} nz L L' short short' = record {
+    fits = L .fits;
+    top = λ m p q. L .top m p (cancel F c (f m) nz
+        (sym (alone (c ⊗ f m) c' (g' m) (L' .g-null m (omega arith))) ∙ sym (combine-at R c f c' g' m) ∙ q));
+    f-null = nullFrom-combine R c f c' g' (suc e) A (L .f-null) (λ m l. L' .g-null m (omega arith));
+    g-null = nullFrom-combine R c g c' f' (t + e) B (L .g-null) (λ m l. L' .f-null m (omega arith));
   }
     where
       alone : (a c' b : Carrier) → b ≡ null → a ⊕ ⊖ (c' ⊗ b) ≡ a
       alone a c' b e = rw e (simp ring)
 
-  pub leadsAt-one : (B : ℕ) → LeadsAt R (constS R one) B B
-  leadsAt-one B = record { fits = omega arith; nonnull = go }
+  -- the pair of 1 and 0
+  pub leading-one : (A B t : ℕ) → Leading R (constS R one) A (nullS R) B t A
+  leading-one A B t = record { fits = omega arith; top = top; f-null = f-null; g-null = λ m l. nullS-at R m }
     where
-      go : (t : ℕ) → t + B ≡ B → constS R one t ≢ null
-      go zero p q = one≢null (sym (constS-zero R one) ∙ q)
-      go (suc t) p q = absurd (omega arith)
+      top : (m : ℕ) → m + A ≡ A → constS R one m ≢ null
+      top zero p q = one≢null (sym (constS-zero R one) ∙ q)
+      top (suc m) p q = absurd (omega arith)
+
+      f-null : (m : ℕ) → suc A ≤ m + A → constS R one m ≡ null
+      f-null zero l = absurd (omega arith)
+      f-null (suc m) l = constS-suc R one m

@@ -10,7 +10,7 @@ use native.Mathlib.Omega.{arith}
 use lib.Dec.{ltb}
 use borrow.Author.Tests.{le-ltb}
 use Rattle.method.proofs.Problem.{None}
-use Rattle.method.proofs.Decision.{candidate-is-answer, none-if-many-wrong}
+use Rattle.method.proofs.LastTest.{candidate-is-answer, none-if-many-wrong}
 use Rattle.poly.specs.Coefficients.{at}
 use Rattle.poly.proofs.Lists.{at-past, at-tabulate, length-tabulate}
 use Rattle.header.specs.Header.{boundsOf}

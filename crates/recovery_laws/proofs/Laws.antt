@@ -81,9 +81,9 @@ module _ (s : List ℕ) {area : ℕ} (W : WellFormedFacts s area) where
       by : (w : Bool) → wrongAt s f g r ≡ w → w ≡ true
       by true e = refl
       by false e =
-          absurd (right-nonzero (F (boundsOf s)) 32 (problem (boundsOf s) (jobPoints s) (jobValues s)) (answer-means s W a)
-          (ample-fits (F (boundsOf s)) 32 _ (ample (boundsOf s) (jobPoints s) (jobValues s) (usable s W)) (capacity (boundsOf s) (jobPoints s) (jobValues s) (usable s W)))
-          (row s W r) (right-means s W (a .within) r l e) (rw (points-at s r l) (sym (value-g s W (a .within) (jobPoint s r)) ∙ ap (residue (jobPrime s) (P (boundsOf s))) z)))
+          absurd (right-nonzero (F (boundsOf s))
+          (ample-fits (F (boundsOf s)) 32 (problem (boundsOf s) (jobPoints s) (jobValues s)) (ample (boundsOf s) (jobPoints s) (jobValues s) (usable s W)) (capacity (boundsOf s) (jobPoints s) (jobValues s) (usable s W)))
+          (answer-means s W a .vector) (row s W r) (right-means s W (a .within) r l e) (rw (points-at s r l) (sym (value-g s W (a .within) (jobPoint s r)) ∙ ap (residue (jobPrime s) (P (boundsOf s))) z)))
 
   -- whether an answer exists is decided
   pub decided : ((f : ℕ → List ℕ) × (g : List ℕ) × Answer s f g) ⊎ Unsolvable s

@@ -5,7 +5,7 @@ use mathlib.Core.List.{List}
 use Prim.Native.Nat.{ℕ, zero, suc, _+_, _%_, _<_}
 use native.Mathlib.Nat.{mod-eq-of-lt}
 use native.Mathlib.Omega.{arith}
-use Rattle.method.proofs.Decision.{unique}
+use Rattle.method.proofs.Uniqueness.{unique}
 use Rattle.reciprocal.proofs.PrimeField.{equal-residue}
 use Rattle.poly.specs.Coefficients.{at, Bounded}
 use Rattle.poly_meaning.proofs.Series.{series-at}

@@ -96,13 +96,12 @@ module _ (b : Bounds) (points values : List ℕ) (U : Usable b points) where
   abbrev T : Problem (R b)
   T = problem b points values
 
-  unfoldable pub ample : Ample (F b) (problem b points values)
+  pub ample : Ample (F b) (problem b points values)
   ample = record {
     distinct = λ i j l l' e. U .distinct i j l l'
         (sym (mod-eq-of-lt (U .table .points-below i)) ∙ equal-residue p (P b) _ _ e ∙ mod-eq-of-lt (U .table .points-below j));
-    A = b .rows - 1 - slackOf b;
-    rows = (let h = U .sized .enough 0 in omega arith);
-    room = λ i l. (let h = U .sized .enough i in omega arith);
+    room = (let h = U .sized .enough 0 in omega arith);
+    enough = λ i l. (let h = U .sized .enough i in omega arith);
   }
 
   pub capacity : b .rows < 32
@@ -141,7 +140,7 @@ module _ (b : Bounds) (points values : List ℕ) (U : Usable b points) where
 
   -- One output more: c holds the first i, and a / h is output i's fraction, in lowest terms, in units of 1 / g.
   module _ {i : ℕ} (li : i < b .outputs) {c : Candidate} (sc : c .solvable ≡ true) (G : Good i c) {phi psi : Series (R b)}
-      (S : Solves (R b) (ample .A) (slackOf b) 32 (conditions (F b) 32 (poly b (c .g .c)) i (evaluation b points values)) (b .rows) phi psi)
+      (S : Solves (R b) (b .rows - 1 - slackOf b) (slackOf b) 32 (conditions (F b) 32 (poly b (c .g .c)) i (evaluation b points values)) (b .rows) phi psi)
       (W : LowestTerms (F b) phi psi) {a h : List ℕ} (ea : W .numerator ≡ poly b a) (eh : W .denominator ≡ poly b h)
       (ba : Bounded p 32 a) (bh : Bounded p 32 h) (lh : lengthOf h ≡ suc (W .degree)) where
     i-small : i < 4

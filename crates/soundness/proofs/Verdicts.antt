@@ -69,9 +69,8 @@ module _ (b : Bounds) (points values : List ℕ) (U : Usable b points) where
     bounded : PairBounded p (b .rows + 1) s
     bounded = solution-means p (P b) (b .rows - 1 - slackOf b) (slackOf b) points z (U .table .points-below) z-below (b .rows) (U .sized .rows) enough .0
 
-    solves : Solves (R b) (ample b points values U .A) (slackOf b) 32 (conditions (F b) 32 (poly b (c .g .c)) i (evaluation b points values)) (b .rows)
+    solves : Solves (R b) (b .rows - 1 - slackOf b) (slackOf b) 32 (conditions (F b) 32 (poly b (c .g .c)) i (evaluation b points values)) (b .rows)
         (poly b (s .a .c)) (poly b (s .b .c))
-    unfolding ample
     solves =
         let S = solution-means p (P b) (b .rows - 1 - slackOf b) (slackOf b) points z (U .table .points-below) z-below (b .rows) (U .sized .rows) enough .1 in
         record {
