@@ -8,7 +8,7 @@ use native.Mathlib.Decide.{ℕ-discrete}
 use native.Mathlib.Omega.{arith}
 use Rattle.row_search.specs.declared.Found.{Found}
 use Rattle.row_search.specs.declared.Found.the-variants.{At, Nothing}
-use Rattle.row_search.specs.Search.{firstBelow, anyBelow, isFound, orElse, ifHolds}
+use Rattle.row_search.specs.Search.{firstBelow, anyBelow, isFound, orElse}
 use Rattle.row_search.proofs.FirstBelow.{none-below}
 use Rattle.word.specs.Word.{flagOf, countBelow}
 use Rattle.recovery_laws.proofs.SameFractions.{count-same}

@@ -20,7 +20,7 @@ module _ (R : Ring) where
   unfoldable pub combine : Carrier → Series R → Carrier → Series R → Series R
   combine c f c' g = addS R (scaleS R c f) (negS R (scaleS R c' g))
 
-  pub combine-at : (c : Carrier) (f : Series R) (c' : Carrier) (g : Series R) (k : ℕ) → combine c f c' g k ≡ c ⊗ f k ⊕ ⊖ (c' ⊗ g k)
+  combine-at : (c : Carrier) (f : Series R) (c' : Carrier) (g : Series R) (k : ℕ) → combine c f c' g k ≡ c ⊗ f k ⊕ ⊖ (c' ⊗ g k)
   unfolding combine
   combine-at c f c' g k = rw (addS-at, negS-at, scaleS-at, scaleS-at)
 

@@ -1,8 +1,8 @@
 -- Vectors of fractions with one denominator: n numerators f and the denominator g.
-use mathlib.Core.Path.{_≡_, sym, _∙_, ap}
+use mathlib.Core.Path.{_≡_, _∙_, ap}
 use Prim.Native.Nat.{ℕ, suc, _<_}
-use Rattle.algebra.proofs.Ring.{Ring, mul-comm, mul-one}
-use Rattle.algebra.proofs.Series.{Series, constS, mulS, seriesRing}
+use Rattle.algebra.proofs.Ring.{mul-comm, mul-one}
+use Rattle.algebra.proofs.Series.{Series, mulS, seriesRing}
 use Rattle.algebra.proofs.Bounds.{Below, Polynomial}
 use Rattle.algebra.proofs.Field.{Field}
 use Rattle.algebra.proofs.LowestTerms.{Monic, monic-constant}
@@ -10,7 +10,6 @@ use Rattle.algebra.proofs.Reduced.{Reduced}
 
 module _ (F : Field) where
   open Field F using (ring as R)
-  open Ring R using (one)
 
   -- a reduced vector of paper 01, f i of degree at most bound i and g of degree at most dg, the leading coefficient of g being 1
   pub record ReducedVector (n : ℕ) (bound : ℕ → ℕ) (dg : ℕ) (f : ℕ → Series R) (g : Series R) : Type 0 where

@@ -8,7 +8,7 @@ use native.Mathlib.Omega.{arith}
 use Rattle.algebra.proofs.Series.{Series}
 use Rattle.algebra.proofs.Value.{value}
 use Rattle.method.proofs.Vectors.{ReducedVector}
-use Rattle.method.proofs.Problem.{Answer as MethodAnswer, Right, wrongCount as methodWrongCount, wrongCount-zero, wrongCount-right, wrongCount-wrong, Evaluation, Problem}
+use Rattle.method.proofs.Problem.{Answer as MethodAnswer, Right, wrongCount as methodWrongCount, wrongCount-zero, wrongCount-right, wrongCount-wrong, Evaluation}
 use Rattle.reciprocal.proofs.PrimeField.{Residue, residue, residue-mul, equal-residue}
 use Rattle.format.specs.Bounds.{numeratorBoundOf}
 use Rattle.poly.specs.Coefficients.{at}
@@ -26,9 +26,6 @@ use Rattle.recovery.specs.Answers.{jobPrime, wrongAt, Within, Reduced, A
 use Rattle.recovery.proofs.Coprime.{coprime-means, means-coprime}
 
 module _ (s : List ℕ) {area : ℕ} (W : WellFormedFacts s area) where
-  abbrev T : Problem (R (boundsOf s))
-  T = problem (boundsOf s) (jobPoints s) (jobValues s)
-
   abbrev p : ℕ
   p = jobPrime s
 

@@ -28,7 +28,7 @@ use Rattle.method.proofs.Interpolation.{
 }
 use Rattle.method.proofs.Solution.{Solves, first-solves, second-solves}
 use Rattle.field.proofs.Primality.{IsPrime}
-use Rattle.reciprocal.proofs.PrimeField.{Residue, residue, residue-add, residue-mul, residue-neg, residueRing, residueField}
+use Rattle.reciprocal.proofs.PrimeField.{residue, residue-add, residue-mul, residue-neg, residueRing, residueField}
 use Rattle.poly.specs.Coefficients.{at}
 use Rattle.poly.specs.Operations.{valueOf}
 use Rattle.poly.specs.Vectors.{onePoly, zeroPoly}
