@@ -7,6 +7,7 @@ use native.Mathlib.Nat.{mod-lt}
 use native.Mathlib.Numerals.{add-one}
 use native.Mathlib.Decide.{decLe, ℕ-discrete}
 use native.Mathlib.Omega.{arith}
+use lib.ListN.{length}
 use Rattle.algebra.proofs.Ring.{Ring, neg-mul, one-mul}
 use Rattle.algebra.proofs.Field.{Field}
 use Rattle.algebra.proofs.Series.{Series, constS, nullS}
@@ -30,8 +31,9 @@ use Rattle.method.proofs.Solution.{Solves, first-solves, second-solves}
 use Rattle.field.proofs.Primality.{IsPrime}
 use Rattle.reciprocal.proofs.PrimeField.{residue, residue-add, residue-mul, residue-neg, residueRing, residueField}
 use Rattle.poly.specs.Coefficients.{at}
-use Rattle.poly.specs.Operations.{valueOf}
+use Rattle.poly.specs.Operations.{valueOf, timesLinearOf, combinationOf}
 use Rattle.poly.specs.Vectors.{onePoly, zeroPoly}
+use Rattle.poly.proofs.Lists.{length-tabulate}
 use Rattle.poly.proofs.Bounds.{bounded-times-linear, bounded-combination}
 use Rattle.poly_meaning.proofs.Series.{
   series,
@@ -47,7 +49,6 @@ use Rattle.pairs.specs.declared.Pair.{Pair}
 use Rattle.pairs.specs.Pairs.{
   Pairs,
   PairBounded,
-  PairsBounded,
   discrepancyOf,
   advancedOf,
   combinedOf,
@@ -101,36 +102,50 @@ module _ (p : ℕ) (P : IsPrime p) where
       (sym (residue-mul p P (p - z) vb) ∙ ap₂ (R .mul) (sym (residue-neg p P z l)) (value-means-bounded p P 32 x (b .right) n) ∙ neg-mul R _ _)
       ∙ sym (discrepancy-at R 32 (condition x z) (meaning s))
 
-  -- the pair t of the code has n coefficients and means the pair m
+  -- a pair of the code: two lists of 32 numbers below p, which are 0 from n on
+  pub record Lists (n : ℕ) (t : Pair) : Type 0 where
+    pub bounded : PairBounded p n t
+    pub left-size : length (t .a .c) ≡ 32
+    pub right-size : length (t .b .c) ≡ 32
+
+  -- its lists mean the pair m
   record Reads (n : ℕ) (t : Pair) (m : SeriesPair R) : Type 0 where
-    bounded : PairBounded p n t
+    lists : Lists n t
     means : meaning t ≡ m
 
   -- after row k: a pair that stays as it is, one times (u - x), and a combination d s - c t
   module _ (k : ℕ) (fits : k + 1 < 32) where
-    stays : {t : Pair} → PairBounded p (k + 1) t → Reads (suc k + 1) t (meaning t)
-    stays b = record { bounded = pair-mono b (omega arith); means = refl }
+    stays : {t : Pair} → Lists (k + 1) t → Reads (suc k + 1) t (meaning t)
+    stays l = record { lists = record { bounded = pair-mono (l .bounded) (omega arith); left-size = l .left-size; right-size = l .right-size }; means = refl }
 
     rises : (x : ℕ) → x < p → {t : Pair} → PairBounded p (k + 1) t → Reads (suc k + 1) (advancedOf p x t) (advanced R (residue p P x) (meaning t))
-    unfolding advancedOf
+    unfolding advancedOf timesLinearOf
     rises x lx {t} b =
         let two = P .two in
         record {
-          bounded = pair-mono
-              (record { left = bounded-times-linear (b .left) x (omega arith); right = bounded-times-linear (b .right) x (omega arith) }) (omega arith);
+          lists = record {
+            bounded = pair-mono
+                (record { left = bounded-times-linear (b .left) x (omega arith); right = bounded-times-linear (b .right) x (omega arith) }) (omega arith);
+            left-size = length-tabulate 32 _;
+            right-size = length-tabulate 32 _;
+          };
           means = same-pair (times-linear-means p P x (b .left) fits lx) (times-linear-means p P x (b .right) fits lx) (add-one (t .e));
         }
 
     combines : (d c : ℕ) → c < p → {s t : Pair} → PairBounded p (k + 1) s → PairBounded p (k + 1) t
         → Reads (suc k + 1) (combinedOf p d s c t) (combined R (residue p P d) (meaning s) (residue p P c) (meaning t))
-    unfolding combinedOf combine
+    unfolding combinedOf combinationOf combine
     combines d c lc bs bt =
         let two = P .two in
         record {
-          bounded = pair-mono (record {
-            left = bounded-combination (bs .left) (bt .left) d c (omega arith);
-            right = bounded-combination (bs .right) (bt .right) d c (omega arith);
-          }) (omega arith);
+          lists = record {
+            bounded = pair-mono (record {
+              left = bounded-combination (bs .left) (bt .left) d c (omega arith);
+              right = bounded-combination (bs .right) (bt .right) d c (omega arith);
+            }) (omega arith);
+            left-size = length-tabulate 32 _;
+            right-size = length-tabulate 32 _;
+          };
           means = same-pair (combination-means p P d c (bs .left) (bt .left) (omega arith) lc) (combination-means p P d c (bs .right) (bt .right) (omega arith) lc) refl;
         }
 
@@ -140,13 +155,15 @@ module _ (p : ℕ) (P : IsPrime p) where
 
     -- after k rows
     pub record Means (k : ℕ) (s : Pairs) : Type 0 where
-      pub bounded : PairsBounded p (k + 1) s
+      pub one : Lists (k + 1) (s .first)
+      pub two : Lists (k + 1) (s .second)
       pub invariant : Invariant (residueRing p P) A B 32 conditionAt k (meaning (s .first)) (meaning (s .second))
 
     reads-means : (k : ℕ) {s t : Pair} {m n : SeriesPair R} → Reads (k + 1) s m → Reads (k + 1) t n → Invariant R A B 32 conditionAt k m n
         → Means k (record { first = s; second = t })
     reads-means k {s} {t} {m} S T I = record {
-      bounded = record { one = S .bounded; two = T .bounded };
+      one = S .lists;
+      two = T .lists;
       invariant = subst (λ r. Invariant R A B 32 conditionAt k r (meaning t)) (sym (S .means))
           (subst (Invariant R A B 32 conditionAt k m) (sym (T .means)) I);
     }
@@ -155,7 +172,8 @@ module _ (p : ℕ) (P : IsPrime p) where
     unfolding startOf
     start-means =
         let b = reached-start p points z A B (startOf A B) (let two = P .two in omega arith) refl .bounded in
-        reads-means _ (record { bounded = b .one; means = same-pair one none refl }) (record { bounded = b .two; means = same-pair none one refl })
+        reads-means 0 (record { lists = record { bounded = b .one; left-size = refl; right-size = refl }; means = same-pair one none refl })
+        (record { lists = record { bounded = b .two; left-size = refl; right-size = refl }; means = same-pair none one refl })
         (start-invariant F A B 32 conditionAt)
       where
         one : series p P (onePoly .c) ≡ constS R (residue p P 1)
@@ -192,10 +210,10 @@ module _ (p : ℕ) (P : IsPrime p) where
       step-means = by (ℕ-discrete d0 0) (ℕ-discrete d1 0) (decLe (s .first .e) (s .second .e))
         where
           b0 : PairBounded p (k + 1) (s .first)
-          b0 = M .bounded .one
+          b0 = M .one .bounded
 
           b1 : PairBounded p (k + 1) (s .second)
-          b1 = M .bounded .two
+          b1 = M .two .bounded
 
           risen : {t : Pair} → PairBounded p (k + 1) t → Reads (suc k + 1) (advancedOf p x t) (advanced R (residue p P x) (meaning t))
           risen b = rises k fits x (points-below k) b
@@ -203,20 +221,20 @@ module _ (p : ℕ) (P : IsPrime p) where
           by : Dec (d0 ≡ 0) → Dec (d1 ≡ 0) → Dec (s .first .e ≤ s .second .e) → Means (suc k) (pairsStep p x (at z k) s)
           by (yes z0) (yes z1) c =
               subst (Means (suc k)) (step-both p x d0 d1 s z0 z1)
-              (reads-means _ (stays k fits b0) (stays k fits b1) (keep-both F A B 32 (M .invariant) (null (s .first) b0 z0) (null (s .second) b1 z1)))
+              (reads-means (suc k) (stays k fits (M .one)) (stays k fits (M .two)) (keep-both F A B 32 (M .invariant) (null (s .first) b0 z0) (null (s .second) b1 z1)))
           by (yes z0) (no n1) c =
               subst (Means (suc k)) (step-second p x d0 d1 s _ z0 n1 refl)
-              (reads-means _ (stays k fits b0) (risen b1) (advance-second F A B 32 (M .invariant) (omega arith) (null (s .first) b0 z0)))
+              (reads-means (suc k) (stays k fits (M .one)) (risen b1) (advance-second F A B 32 (M .invariant) (omega arith) (null (s .first) b0 z0)))
           by (no n0) (yes z1) c =
               subst (Means (suc k)) (step-first p x d0 d1 s _ n0 z1 refl)
-              (reads-means _ (risen b0) (stays k fits b1) (advance-first F A B 32 (M .invariant) (omega arith) (null (s .second) b1 z1)))
+              (reads-means (suc k) (risen b0) (stays k fits (M .two)) (advance-first F A B 32 (M .invariant) (omega arith) (null (s .second) b1 z1)))
           by (no n0) (no n1) (yes le) =
               subst (Means (suc k)) (step-clear-second p x d0 d1 s _ _ n0 n1 le refl refl)
-              (reads-means _ (risen b0) (combines k fits d0 d1 (small (s .second)) b1 b0)
+              (reads-means (suc k) (risen b0) (combines k fits d0 d1 (small (s .second)) b1 b0)
               (combine-second F A B 32 (M .invariant) (omega arith) _ _ (means (s .first) b0) (means (s .second) b1) (nonnull (s .first) n0) le))
           by (no n0) (no n1) (no gt) =
               subst (Means (suc k)) (step-clear-first p x d0 d1 s _ _ n0 n1 (omega arith) refl refl)
-              (reads-means _ (combines k fits d1 d0 (small (s .first)) b0 b1) (risen b1)
+              (reads-means (suc k) (combines k fits d1 d0 (small (s .first)) b0 b1) (risen b1)
               (combine-first F A B 32 (M .invariant) (omega arith) _ _ (means (s .first) b0) (means (s .second) b1) (nonnull (s .second) n1) (omega arith)))
 
     -- after each row
@@ -227,7 +245,7 @@ module _ (p : ℕ) (P : IsPrime p) where
 
     -- after as many rows as there are coefficients less one, the smaller pair solves the conditions
     pub solution-means : (k : ℕ) → k ≤ 31 → k ≡ A + B + 1
-        → PairBounded p (k + 1) (solutionOf p points z A B k)
+        → Lists (k + 1) (solutionOf p points z A B k)
         × Solves (residueRing p P) A B 32 conditionAt k (series p P (solutionOf p points z A B k .a .c)) (series p P (solutionOf p points z A B k .b .c))
     solution-means k l e = by (decLe (s .first .e) (s .second .e))
       where
@@ -238,8 +256,8 @@ module _ (p : ℕ) (P : IsPrime p) where
         M = pairs-mean k l
 
         Good : Pair → Type 0
-        Good t = PairBounded p (k + 1) t × Solves R A B 32 conditionAt k (series p P (t .a .c)) (series p P (t .b .c))
+        Good t = Lists (k + 1) t × Solves R A B 32 conditionAt k (series p P (t .a .c)) (series p P (t .b .c))
 
         by : Dec (s .first .e ≤ s .second .e) → Good (smallerOf s)
-        by (yes le) = subst Good (smaller-first {s = s} refl le) (M .bounded .one, first-solves R (M .invariant) e le)
-        by (no gt) = subst Good (smaller-second {s = s} refl (omega arith)) (M .bounded .two, second-solves R (M .invariant) e (omega arith))
+        by (yes le) = subst Good (smaller-first {s = s} refl le) (M .one, first-solves R (M .invariant) e le)
+        by (no gt) = subst Good (smaller-second {s = s} refl (omega arith)) (M .two, second-solves R (M .invariant) e (omega arith))
