@@ -44,12 +44,12 @@ module _ (F : Field) where
 
     module _ (H : Ample F T) (capacity : T .count < N) (i : ℕ) (li : i < T .outputs) (Fs : ℕ → Series R) (G : Series R) (d : ℕ)
         (monic : Monic F G d) (short : d ≤ T .denominatorBound) (M : Multiple F i f g Fs G) (phi psi : Series R)
-        (S : Solves R (phiDegree F T) (psiDegree F T) N (conditions N G i (T .row)) (T .count) phi psi) where
+        (S : Solves R (phiDegree T) (psiDegree T) N (conditions N G i (T .row)) (T .count) phi psi) where
       abbrev A : ℕ
-      A = phiDegree F T
+      A = phiDegree T
 
       abbrev B : ℕ
-      B = psiDegree F T
+      B = psiDegree T
 
       abbrev dg : ℕ
       dg = T .denominatorBound

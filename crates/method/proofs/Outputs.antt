@@ -54,7 +54,7 @@ module _ (F : Field) (N : ℕ) (T : Problem (F .ring)) where
 
   module _ (H : Ample F T) (capacity : T .count < N) {i : ℕ} (li : i < T .outputs) {Fs : ℕ → Series R} {G : Series R} {d : ℕ}
       (C : Candidate i Fs G d) {phi psi : Series R}
-      (S : Solves R (phiDegree F T) (psiDegree F T) N (conditions F N G i (T .row)) (T .count) phi psi) where
+      (S : Solves R (phiDegree T) (psiDegree T) N (conditions F N G i (T .row)) (T .count) phi psi) where
     pub none-if-psi-null : psi ≡ nullS R → None F N T
     none-if-psi-null z f g a = psi-nonnull F N T f g a H capacity i li Fs G d (C .monic) (C .fits) (C .multiple f g a) phi psi S z
 

@@ -1,5 +1,5 @@
--- Two operations on polynomials that the interpolation uses, combination c f - c' g and multiplication by u - x:
--- what each does to values, to the coefficients that vanish, and to the leading coefficient.
+-- Two operations on polynomials that the interpolation uses, combination c f - c' g and multiplication by u - x: what each does to
+-- values, to the coefficients that vanish, and to the leading coefficient.
 use mathlib.Core.Path.{_≡_, sym, _∙_, ap}
 use mathlib.Core.Logic.{_≢_}
 use Prim.Native.Nat.{ℕ, zero, suc, _+_, _≤_, _<_}
@@ -7,7 +7,7 @@ use native.Mathlib.Omega.{arith}
 use Rattle.algebra.proofs.Ring.{Ring, ring, null-add, mul-null}
 use Rattle.algebra.proofs.Series.{Series, addS, negS, nullS, constS, scaleS, mulS, addS-at, negS-at, scaleS-at, nullS-at, constS-zero, constS-suc}
 use Rattle.algebra.proofs.Bounds.{Below, below-mono, below-mul, below-add, below-neg, below-scale}
-use Rattle.algebra.proofs.Value.{value, value-add, value-neg, value-scale, value-stable, linear, linear-below, linear-mul-zero, linear-mul-suc, value-linear-mul}
+use Rattle.algebra.proofs.Value.{value, value-add, value-neg, value-scale, value-stable, linear, linear-below, linear-mul-zero, linear-mul-suc, value-linear, value-mul-within}
 use Rattle.algebra.proofs.Field.{Field, cancel}
 
 module _ (R : Ring) where
@@ -40,10 +40,8 @@ module _ (R : Ring) where
   pub value-linear-within : (N k : ℕ) (f : Series R) (x y : Carrier) → Below R f (suc k) → suc k < N
       → value R N (mulS R (linear R x) f) y ≡ (y ⊕ ⊖ x) ⊗ value R N f y
   value-linear-within N k f x y h l =
-      value-stable R (suc (suc k)) N _ y (below-linear-mul x f k h) (omega arith)
-      ∙ sym (value-stable R (suc (suc k)) (2 + suc k) _ y (below-linear-mul x f k h) (omega arith))
-      ∙ value-linear-mul R (suc k) f x y h
-      ∙ ap (λ t. (y ⊕ ⊖ x) ⊗ t) (sym (value-stable R (suc k) N f y h (omega arith)))
+      value-mul-within R 2 (suc k) (suc (suc k)) N N (linear R x) f y (linear-below R x) h (below-linear-mul x f k h) (omega arith) (omega arith) (omega arith)
+      ∙ ap (λ t. t ⊗ value R N f y) (value-stable R 2 N (linear R x) y (linear-below R x) (omega arith) ∙ value-linear R x y)
 
   -- f[m] = 0 where e ≤ m + A
   abbrev NullFrom : Series R → ℕ → ℕ → Type 0
@@ -57,7 +55,8 @@ module _ (R : Ring) where
       → NullFrom f e A → NullFrom g e A → NullFrom (combine c f c' g) e A
   nullFrom-combine c f c' g e A hf hg m l = rw (combine-at, hf m l, hg m l) (simp ring)
 
-  -- a pair that leads in f: with A ≤ e, f[e - A] is not 0 and is the last coefficient of f that is not; g[m] = 0 where t + e ≤ m + B
+  -- a pair with the number e that leads in f: f[e - A] is its last coefficient that is not 0, and g[m] = 0 where t + e ≤ m + B; t is 0 for
+  -- the pair that leads in the numerator, and 1 for the other
   pub record Leading (f : Series R) (A : ℕ) (g : Series R) (B t e : ℕ) : Type 0 where
     pub fits : A ≤ e
     pub top : (m : ℕ) → m + A ≡ e → f m ≢ null

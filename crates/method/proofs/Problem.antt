@@ -27,6 +27,18 @@ pub record Problem (R : Ring) : Type 0 where
   pub count : ℕ
   pub row : ℕ → Evaluation R
 
+-- the degrees A and B of the polynomials phi and psi that are found for an output (docs/METHOD.md, All outputs)
+abbrev pub phiDegree : {R : Ring} → Problem R → ℕ
+phiDegree T = T .count - 1 - (T .denominatorBound + T .errors)
+
+abbrev pub psiDegree : {R : Ring} → Problem R → ℕ
+psiDegree T = T .denominatorBound + T .errors
+
+-- N coefficients are enough for n numerators with these degree bounds and for a denominator of degree at most dg
+pub record Fits (N n : ℕ) (bound : ℕ → ℕ) (dg : ℕ) : Type 0 where
+  pub numerators : (i : ℕ) → i < n → bound i < N
+  pub denominator : dg < N
+
 module _ (F : Field) where
   open Field F using (ring as R, dec, one≢null)
   open Ring R using (mul as _⊗_, null)
@@ -37,6 +49,7 @@ module _ (F : Field) where
     abbrev pub Right : (ℕ → Series R) → Series R → Evaluation R → Type 0
     Right f g r = (i : ℕ) → i < n → value R N (f i) (r .point) ≡ value R N g (r .point) ⊗ r .values i
 
+    -- it is decided whether a row is right
     pub dec-right : (f : ℕ → Series R) (g : Series R) (r : Evaluation R) → Dec (Right f g r)
     dec-right f g r = dec-all n (λ i. value R N (f i) (r .point) ≡ value R N g (r .point) ⊗ r .values i) (λ i l. dec _ _)
 
@@ -44,6 +57,7 @@ module _ (F : Field) where
     abbrev pub wrongCount : (ℕ → Series R) → Series R → (ℕ → Evaluation R) → ℕ → ℕ
     wrongCount f g row L = failures (λ l. dec-right f g (row l)) L
 
+    -- no row, a right row more, a wrong row more
     pub wrongCount-zero : (f : ℕ → Series R) (g : Series R) (row : ℕ → Evaluation R) → wrongCount f g row 0 ≡ 0
     wrongCount-zero f g row = failures-zero (λ l. dec-right f g (row l))
 
@@ -61,11 +75,6 @@ module _ (F : Field) where
     wrongCount-respects same row L =
         failures-le _ _ L (λ l h ok i li.
         ap (λ t. value R N t (row l .point)) (sym (same .1 i li)) ∙ ok i li ∙ ap (λ t. value R N t (row l .point) ⊗ row l .values i) (same .0))
-
-  -- the bounds leave room in N coefficients
-  pub record Fits (N n : ℕ) (bound : ℕ → ℕ) (dg : ℕ) : Type 0 where
-    pub numerators : (i : ℕ) → i < n → bound i < N
-    pub denominator : dg < N
 
   -- at a right row of a reduced vector the denominator is not null, since u - x would divide g and every f
   pub right-nonzero : {N n : ℕ} {bound : ℕ → ℕ} {dg : ℕ} {f : ℕ → Series R} {g : Series R} → Fits N n bound dg → ReducedVector F n bound dg f g
@@ -90,24 +99,20 @@ module _ (F : Field) where
     pub vector : ReducedVector F (T .outputs) (T .bound) (T .denominatorBound) f g
     pub few-wrong : wrongCount N (T .outputs) f g (T .row) (T .count) ≤ T .errors
 
+  -- there is no answer
   abbrev pub None : ℕ → Problem R → Type 0
   None N T = (f : ℕ → Series R) (g : Series R) → Answer N T f g → ⊥
 
+  -- the points of the rows
   abbrev pub points : Problem R → ℕ → R .Carrier
   points T l = T .row l .point
 
-  -- distinct points, and rows enough for every output: L ≥ df + dg + 2 E + 1
+  -- distinct points, and rows enough for every output, L ≥ df + dg + 2 E + 1; where there is an output, `room` follows from `enough`
   pub record Ample (T : Problem R) : Type 0 where
     pub distinct : Distinct F (points T) (T .count)
     pub room : T .denominatorBound + T .errors < T .count
     pub enough : (i : ℕ) → i < T .outputs → T .bound i + T .denominatorBound + 2 * T .errors < T .count
 
-  -- the degrees A and B of the polynomials phi and psi that are found for an output (docs/METHOD.md, All outputs)
-  abbrev pub phiDegree : Problem R → ℕ
-  phiDegree T = T .count - 1 - (T .denominatorBound + T .errors)
-
-  abbrev pub psiDegree : Problem R → ℕ
-  psiDegree T = T .denominatorBound + T .errors
-
+  -- more coefficients than rows are enough for the bounds
   pub ample-fits : (N : ℕ) (T : Problem R) → Ample T → T .count < N → Fits N (T .outputs) (T .bound) (T .denominatorBound)
   ample-fits N T H l = record { numerators = λ i h. (let e = H .enough i h in omega arith); denominator = (let e = H .room in omega arith) }

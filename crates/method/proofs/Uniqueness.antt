@@ -29,7 +29,7 @@ module _ (F : Field) {n : ℕ} {bound : ℕ → ℕ} {dg : ℕ} {f f' : ℕ → 
   same-if-proportional cross = (sym (same .0), λ i l. sym (same .1 i l))
     where
       polynomials : {h : ℕ → Series R} {k : Series R} → ReducedVector F n bound dg h k → (i : ℕ) → i < n → Polynomial R (h i)
-      polynomials W i l = (suc (bound i), W .numerators-below i l)
+      polynomials w i l = (suc (bound i), w .numerators-below i l)
 
       unit : InIdeal F n f g (constS R one)
       unit = ideal-of-reduced F n f g (polynomials v) (suc dg, v .denominator-below) (monic-nonnull F g (v .degree) (v .monic)) (v .reduced)
@@ -56,7 +56,8 @@ module _ (F : Field) {n : ℕ} {bound : ℕ → ℕ} {dg : ℕ} {f f' : ℕ → 
         numerators = numerators;
       })
 
-  module _ {N : ℕ} (fits : Fits F N n bound dg) (row : ℕ → Evaluation R) (L : ℕ) (distinct : Distinct F (λ l. row l .point) L) where
+  module _ {N : ℕ} (fits : Fits N n bound dg) (row : ℕ → Evaluation R) (L : ℕ) (distinct : Distinct F (λ l. row l .point) L) where
+    -- which rows are right for each vector
     abbrev right : (l : ℕ) → Dec (Right F N n f g (row l))
     right l = dec-right F N n f g (row l)
 
@@ -97,11 +98,11 @@ module _ (F : Field) {n : ℕ} {bound : ℕ → ℕ} {dg : ℕ} {f f' : ℕ → 
           (product-below (f' i) g (v' .numerators-below i li) (v .denominator-below)) distinct
           (λ l h ok. agree (row l) (ok .0) (ok .1)) (let w = failures-and right right' L in omega arith)
 
-    -- more rows than that for every output: the vectors are the same
+    -- more rows than these degrees and wrong rows, for every output: the vectors are the same
     pub same-if-many : ((i : ℕ) → i < n → bound i + dg + bothWrong < L) → SameVector F n f g f' g'
     same-if-many many = same-if-proportional (λ i l. cross i l (many i l))
 
-    -- df: the largest bound of a numerator
+    -- two reduced vectors are the same, or the rows number at most df + dg and the wrong rows of both, where df is a bound of all numerators
     pub same-or-few : (df : ℕ) → ((i : ℕ) → i < n → bound i ≤ df)
         → SameVector F n f g f' g' ⊎ (L ≤ df + dg + wrongCount F N n f g row L + wrongCount F N n f' g' row L)
     same-or-few df largest = by (decLe L (df + dg + wrongCount F N n f g row L + wrongCount F N n f' g' row L))

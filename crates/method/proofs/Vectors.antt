@@ -19,6 +19,7 @@ module _ (F : Field) where
     pub monic : Monic F g degree
     pub reduced : Reduced F n f g
 
+  -- equal denominators, and equal numerators
   abbrev pub SameVector : (n : ℕ) (f : ℕ → Series R) (g : Series R) (f' : ℕ → Series R) (g' : Series R) → Type 0
   SameVector n f g f' g' = (g ≡ g') × ((i : ℕ) → i < n → f i ≡ f' i)
 
@@ -29,7 +30,7 @@ module _ (F : Field) where
     pub denominator : g ≡ mulS R g' q
     pub numerators : (i : ℕ) → i < n → f i ≡ mulS R (f' i) q
 
-  -- a reduced vector is a multiple of itself only, where both denominators have leading coefficient 1
+  -- a reduced vector that is a multiple of another is the same, where both denominators have leading coefficient 1
   pub same-if-multiple : {n : ℕ} {f f' : ℕ → Series R} {g g' : Series R} {d d' : ℕ} → Monic F g d → Reduced F n f g → Monic F g' d'
       → ((i : ℕ) → i < n → Polynomial R (f' i)) → Multiple n f g f' g' → SameVector n f g f' g'
   same-if-multiple {f' = f'} {g = g} {g' = g'} {d = d} {d' = d'} monic reduced monic' polynomials M =
