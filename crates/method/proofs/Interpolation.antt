@@ -52,68 +52,81 @@ module _ (R : Ring) where
   abbrev pub combined : Carrier → Pair R → Carrier → Pair R → Pair R
   combined c s c' t = record { a = combine R c (s .a) c' (t .a); b = combine R c (s .b) c' (t .b); e = s .e }
 
-  -- points 1 and 5 of the invariant, for one pair
-  pub record Agrees (N : ℕ) (row : ℕ → Condition R) (k : ℕ) (s : Pair R) : Type 0 where
+  -- what the invariant says after k rows of one pair s, which leads in f; the numbers are those of docs/METHOD.md
+  pub record Holds (N : ℕ) (row : ℕ → Condition R) (k : ℕ) (s : Pair R) (f : Series R) (A : ℕ) (g : Series R) (B t : ℕ) : Type 0 where
+    -- 1
     pub at-row : (l : ℕ) → l < k → discrepancy N (row l) s ≡ null
+    -- 2 or 3
+    pub leads : Leading R f A g B t (s .e)
+    -- 5
     pub a-below : Below R (s .a) (suc k)
     pub b-below : Below R (s .b) (suc k)
 
-  module _ (N : ℕ) (row : ℕ → Condition R) (k : ℕ) where
-    agrees-keep : (s : Pair R) → discrepancy N (row k) s ≡ null → Agrees N row k s → Agrees N row (suc k) s
-    agrees-keep s e S = record {
-      at-row = below-suc (λ l. discrepancy N (row l) s ≡ null) k (S .at-row) e;
-      a-below = below-mono R (s .a) _ _ (omega arith) (S .a-below);
-      b-below = below-mono R (s .b) _ _ (omega arith) (S .b-below);
-    }
-
-    agrees-advanced : (s : Pair R) → suc k < N → Agrees N row k s → Agrees N row (suc k) (advanced (row k .x) s)
-    agrees-advanced s fits S = record {
-      at-row = below-suc (λ l. discrepancy N (row l) (advanced x s) ≡ null) k
-          (λ l h. times l ∙ ap (λ t. (row l .x ⊕ ⊖ x) ⊗ t) (S .at-row l h) ∙ mul-null R _)
-          (times k ∙ itself (discrepancy N (row k) s));
-      a-below = below-linear-mul R x (s .a) k (S .a-below);
-      b-below = below-linear-mul R x (s .b) k (S .b-below);
-    }
-      where
-        x : Carrier
-        x = row k .x
-
-        itself : (d : Carrier) → (x ⊕ ⊖ x) ⊗ d ≡ null
-        itself d = simp ring
-
-        times : (l : ℕ) → discrepancy N (row l) (advanced x s) ≡ (row l .x ⊕ ⊖ x) ⊗ discrepancy N (row l) s
-        times l = simp (discrepancy-at, value-linear-within R N k (s .a) x (row l .x) (S .a-below) fits, value-linear-within R N k (s .b) x (row l .x) (S .b-below) fits, ring)
-
-    -- with the discrepancies c' of s and c of t
-    agrees-combined : (c : Carrier) (s : Pair R) (c' : Carrier) (t : Pair R) → c ≡ discrepancy N (row k) t → c' ≡ discrepancy N (row k) s
-        → Agrees N row k s → Agrees N row k t → Agrees N row (suc k) (combined c s c' t)
-    agrees-combined c s c' t e e' S T = record {
-      at-row = below-suc (λ l. discrepancy N (row l) (combined c s c' t) ≡ null) k
-          (λ l h. difference l ∙ none _ _ (S .at-row l h) (T .at-row l h)) (difference k ∙ itself _ _ e e');
-      a-below = below-mono R _ _ _ (omega arith) (below-combine R c (s .a) c' (t .a) _ (S .a-below) (T .a-below));
-      b-below = below-mono R _ _ _ (omega arith) (below-combine R c (s .b) c' (t .b) _ (S .b-below) (T .b-below));
-    }
-      where
-        difference : (l : ℕ) → discrepancy N (row l) (combined c s c' t) ≡ c ⊗ discrepancy N (row l) s ⊕ ⊖ (c' ⊗ discrepancy N (row l) t)
-        difference l = simp (discrepancy-at, value-combine, ring)
-
-        itself : (d d' : Carrier) → c ≡ d' → c' ≡ d → c ⊗ d ⊕ ⊖ (c' ⊗ d') ≡ null
-        itself d d' h h' = rw (h, h') (simp ring)
-
-        none : (d d' : Carrier) → d ≡ null → d' ≡ null → c ⊗ d ⊕ ⊖ (c' ⊗ d') ≡ null
-        none d d' h h' = rw (h, h') (simp ring)
-
-  -- the invariant of the pairs s and t after k rows; the numbers are those of docs/METHOD.md
+  -- the invariant of the pairs s and t
   pub record Invariant (A B N : ℕ) (row : ℕ → Condition R) (k : ℕ) (s t : Pair R) : Type 0 where
-    -- 1 and 5
-    pub first : Agrees N row k s
-    pub second : Agrees N row k t
-    -- 2: s leads in a
-    pub first-leads : Leading R (s .a) B (s .b) A 0 (s .e)
-    -- 3: t leads in b
-    pub second-leads : Leading R (t .b) A (t .a) B 1 (t .e)
+    -- s leads in a, t in b
+    pub first : Holds N row k s (s .a) B (s .b) A 0
+    pub second : Holds N row k t (t .b) A (t .a) B 1
     -- 4
     pub sum : s .e + t .e ≤ A + B + k
+
+module _ (F : Field) (N : ℕ) (row : ℕ → Condition (F .ring)) (k : ℕ) where
+  open Field F using (ring as R)
+  open Ring R using (Carrier, add as _⊕_, mul as _⊗_, neg as ⊖_, null)
+
+  infixl 60 _⊕_
+  infixl 70 _⊗_
+  infix 80 ⊖_
+  abbrev x : Carrier
+  x = row k .x
+
+  -- What a row does to a pair, whichever of the two it is. A pair that meets the condition stays.
+  keeps : {s : Pair R} {f g : Series R} {A B t : ℕ} → discrepancy R N (row k) s ≡ null → Holds R N row k s f A g B t → Holds R N row (suc k) s f A g B t
+  keeps {s} e S = record {
+    at-row = below-suc (λ l. discrepancy R N (row l) s ≡ null) k (S .at-row) e;
+    leads = S .leads;
+    a-below = below-mono R (s .a) _ _ (omega arith) (S .a-below);
+    b-below = below-mono R (s .b) _ _ (omega arith) (S .b-below);
+  }
+
+  -- a pair times (u - x)
+  advances : {s : Pair R} {f g : Series R} {A B t : ℕ} → suc k < N → Holds R N row k s f A g B t
+      → Holds R N row (suc k) (advanced R (row k .x) s) (mulS R (linear R (row k .x)) f) A (mulS R (linear R (row k .x)) g) B t
+  advances {s} fits S = record {
+    at-row = below-suc (λ l. discrepancy R N (row l) (advanced R x s) ≡ null) k
+        (λ l h. times l ∙ ap (λ t. (row l .x ⊕ ⊖ x) ⊗ t) (S .at-row l h) ∙ mul-null R _)
+        (times k ∙ itself (discrepancy R N (row k) s));
+    leads = leading-linear R x (S .leads);
+    a-below = below-linear-mul R x (s .a) k (S .a-below);
+    b-below = below-linear-mul R x (s .b) k (S .b-below);
+  }
+    where
+      itself : (d : Carrier) → (x ⊕ ⊖ x) ⊗ d ≡ null
+      itself d = simp ring
+
+      times : (l : ℕ) → discrepancy R N (row l) (advanced R x s) ≡ (row l .x ⊕ ⊖ x) ⊗ discrepancy R N (row l) s
+      times l = simp (discrepancy-at, value-linear-within R N k (s .a) x (row l .x) (S .a-below) fits, value-linear-within R N k (s .b) x (row l .x) (S .b-below) fits, ring)
+
+  -- the combination c s - c' s' that meets the condition, c and c' being the discrepancies of s' and s, and s' shorter
+  combines : {s s' : Pair R} {f g f' g' : Series R} {A B t t' : ℕ} (c c' : Carrier) → c ≡ discrepancy R N (row k) s' → c' ≡ discrepancy R N (row k) s → c ≢ null
+      → Holds R N row k s f A g B t → Holds R N row k s' f' B g' A t' → t' + s' .e ≤ s .e → suc (s' .e) ≤ t + s .e
+      → Holds R N row (suc k) (combined R c s c' s') (combine R c f c' g') A (combine R c g c' f') B t
+  combines {s} {s'} c c' e e' nz S S' short short' = record {
+    at-row = below-suc (λ l. discrepancy R N (row l) (combined R c s c' s') ≡ null) k
+        (λ l h. difference l ∙ none _ _ (S .at-row l h) (S' .at-row l h)) (difference k ∙ itself _ _ e e');
+    leads = leading-combine F c' nz (S .leads) (S' .leads) short short';
+    a-below = below-mono R _ _ _ (omega arith) (below-combine R c (s .a) c' (s' .a) _ (S .a-below) (S' .a-below));
+    b-below = below-mono R _ _ _ (omega arith) (below-combine R c (s .b) c' (s' .b) _ (S .b-below) (S' .b-below));
+  }
+    where
+      difference : (l : ℕ) → discrepancy R N (row l) (combined R c s c' s') ≡ c ⊗ discrepancy R N (row l) s ⊕ ⊖ (c' ⊗ discrepancy R N (row l) s')
+      difference l = simp (discrepancy-at, value-combine, ring)
+
+      itself : (d d' : Carrier) → c ≡ d' → c' ≡ d → c ⊗ d ⊕ ⊖ (c' ⊗ d') ≡ null
+      itself d d' h h' = rw (h, h') (simp ring)
+
+      none : (d d' : Carrier) → d ≡ null → d' ≡ null → c ⊗ d ⊕ ⊖ (c' ⊗ d') ≡ null
+      none d d' h h' = rw (h, h') (simp ring)
 
 module _ (F : Field) (A B N : ℕ) where
   open Field F using (ring as R)
@@ -121,62 +134,35 @@ module _ (F : Field) (A B N : ℕ) where
 
   pub start-invariant : (row : ℕ → Condition R) → Invariant R A B N row 0 (firstPair R B) (secondPair R A)
   start-invariant row = record {
-    first = record { at-row = λ l h. absurd (omega arith); a-below = below-constS R one; b-below = λ k l. nullS-at R k };
-    second = record { at-row = λ l h. absurd (omega arith); a-below = λ k l. nullS-at R k; b-below = below-constS R one };
-    first-leads = leading-one F B A 0;
-    second-leads = leading-one F A B 1;
+    first = record { at-row = λ l h. absurd (omega arith); leads = leading-one F B A 0; a-below = below-constS R one; b-below = λ k l. nullS-at R k };
+    second = record { at-row = λ l h. absurd (omega arith); leads = leading-one F A B 1; a-below = λ k l. nullS-at R k; b-below = below-constS R one };
     sum = omega arith;
   }
 
-  -- the five lines of the table, for a row with the point x
+  -- the five lines of the table
   module _ {row : ℕ → Condition R} {k : ℕ} {s t : Pair R} (I : Invariant R A B N row k s t) where
     pub keep-both : discrepancy R N (row k) s ≡ null → discrepancy R N (row k) t ≡ null → Invariant R A B N row (suc k) s t
-    keep-both z0 z1 = record {
-      first = agrees-keep R N row k s z0 (I .first);
-      second = agrees-keep R N row k t z1 (I .second);
-      first-leads = I .first-leads;
-      second-leads = I .second-leads;
-      sum = (let h = I .sum in omega arith);
-    }
+    keep-both z0 z1 = record { first = keeps F N row k z0 (I .first); second = keeps F N row k z1 (I .second); sum = (let h = I .sum in omega arith) }
 
     module _ (fits : suc k < N) where
-      abbrev x : Carrier
-      x = row k .x
-
       pub advance-first : discrepancy R N (row k) t ≡ null → Invariant R A B N row (suc k) (advanced R (row k .x) s) t
-      advance-first z1 = record {
-        first = agrees-advanced R N row k s fits (I .first);
-        second = agrees-keep R N row k t z1 (I .second);
-        first-leads = leading-linear R x (I .first-leads);
-        second-leads = I .second-leads;
-        sum = (let h = I .sum in omega arith);
-      }
+      advance-first z1 = record { first = advances F N row k fits (I .first); second = keeps F N row k z1 (I .second); sum = (let h = I .sum in omega arith) }
 
       pub advance-second : discrepancy R N (row k) s ≡ null → Invariant R A B N row (suc k) s (advanced R (row k .x) t)
-      advance-second z0 = record {
-        first = agrees-keep R N row k s z0 (I .first);
-        second = agrees-advanced R N row k t fits (I .second);
-        first-leads = I .first-leads;
-        second-leads = leading-linear R x (I .second-leads);
-        sum = (let h = I .sum in omega arith);
-      }
+      advance-second z0 = record { first = keeps F N row k z0 (I .first); second = advances F N row k fits (I .second); sum = (let h = I .sum in omega arith) }
 
-      -- d0 and d1 are the discrepancies: the pair with the larger number becomes the combination that meets the condition, the other is advanced
+      -- d0 and d1 are the discrepancies
       module _ (d0 d1 : Carrier) (e0 : d0 ≡ discrepancy R N (row k) s) (e1 : d1 ≡ discrepancy R N (row k) t) where
         pub combine-second : d0 ≢ null → s .e ≤ t .e → Invariant R A B N row (suc k) (advanced R (row k .x) s) (combined R d0 t d1 s)
         combine-second n0 le = record {
-          first = agrees-advanced R N row k s fits (I .first);
-          second = agrees-combined R N row k d0 t d1 s e0 e1 (I .second) (I .first);
-          first-leads = leading-linear R x (I .first-leads);
-          second-leads = leading-combine F d1 n0 (I .second-leads) (I .first-leads) (omega arith) (omega arith);
+          first = advances F N row k fits (I .first);
+          second = combines F N row k d0 d1 e0 e1 n0 (I .second) (I .first) (omega arith) (omega arith);
           sum = (let h = I .sum in omega arith);
         }
 
         pub combine-first : d1 ≢ null → t .e < s .e → Invariant R A B N row (suc k) (combined R d1 s d0 t) (advanced R (row k .x) t)
         combine-first n1 lt = record {
-          first = agrees-combined R N row k d1 s d0 t e1 e0 (I .first) (I .second);
-          second = agrees-advanced R N row k t fits (I .second);
-          first-leads = leading-combine F d0 n1 (I .first-leads) (I .second-leads) (omega arith) (omega arith);
-          second-leads = leading-linear R x (I .second-leads);
+          first = combines F N row k d1 d0 e1 e0 n1 (I .first) (I .second) (omega arith) (omega arith);
+          second = advances F N row k fits (I .second);
           sum = (let h = I .sum in omega arith);
         }

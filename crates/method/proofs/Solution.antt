@@ -8,7 +8,7 @@ use Rattle.algebra.proofs.Series.{Series, nullS, nullS-at}
 use Rattle.algebra.proofs.Bounds.{Below}
 use Rattle.algebra.proofs.Value.{value}
 use Rattle.method.proofs.PairLaws.{Leading}
-use Rattle.method.proofs.Interpolation.{Condition, Pair, discrepancy-at, Agrees, Invariant}
+use Rattle.method.proofs.Interpolation.{Condition, Pair, discrepancy-at, Holds, Invariant}
 
 module _ (R : Ring) where
   -- phi of degree at most A, psi of degree at most B, not both null, meet the first L conditions
@@ -18,9 +18,9 @@ module _ (R : Ring) where
     pub meets : (l : ℕ) → l < L → R .mul (row l .c) (value R N phi (row l .x)) ≡ R .mul (row l .z) (value R N psi (row l .x))
     pub not-both-null : phi ≡ nullS R → psi ≢ nullS R
 
-  agrees-meets : {N : ℕ} {row : ℕ → Condition R} {k : ℕ} {s : Pair R} → Agrees R N row k s → (l : ℕ) → l < k
+  holds-meets : {N : ℕ} {row : ℕ → Condition R} {k : ℕ} {s : Pair R} {f g : Series R} {A B t : ℕ} → Holds R N row k s f A g B t → (l : ℕ) → l < k
       → R .mul (row l .c) (value R N (s .a) (row l .x)) ≡ R .mul (row l .z) (value R N (s .b) (row l .x))
-  agrees-meets {N} {row} {k} {s} S l h = sub-null R _ _ (sym (discrepancy-at R N (row l) s) ∙ S .at-row l h)
+  holds-meets {N} {row} {k} {s} S l h = sub-null R _ _ (sym (discrepancy-at R N (row l) s) ∙ S .at-row l h)
 
   leads-nonnull : {f g : Series R} {A B t e : ℕ} → Leading R f A g B t e → f ≢ nullS R
   leads-nonnull {A = A} {e = e} L z = L .top (e - A) (let h = L .fits in omega arith) (ap (λ g. g (e - A)) z ∙ nullS-at R _)
@@ -28,16 +28,16 @@ module _ (R : Ring) where
   module _ {A B N : ℕ} {row : ℕ → Condition R} {L : ℕ} {s t : Pair R} (I : Invariant R A B N row L s t) (rows : L ≡ A + B + 1) where
     pub first-solves : s .e ≤ t .e → Solves A B N row L (s .a) (s .b)
     first-solves le = record {
-      phi-below = λ k l. I .first-leads .f-null k (let h = I .sum in omega arith);
-      psi-below = λ k l. I .first-leads .g-null k (let h = I .sum in omega arith);
-      meets = agrees-meets (I .first);
-      not-both-null = λ z _. leads-nonnull (I .first-leads) z;
+      phi-below = λ k l. I .first .leads .f-null k (let h = I .sum in omega arith);
+      psi-below = λ k l. I .first .leads .g-null k (let h = I .sum in omega arith);
+      meets = holds-meets (I .first);
+      not-both-null = λ z _. leads-nonnull (I .first .leads) z;
     }
 
     pub second-solves : t .e < s .e → Solves A B N row L (t .a) (t .b)
     second-solves lt = record {
-      phi-below = λ k l. I .second-leads .g-null k (let h = I .sum in omega arith);
-      psi-below = λ k l. I .second-leads .f-null k (let h = I .sum in omega arith);
-      meets = agrees-meets (I .second);
-      not-both-null = λ _. leads-nonnull (I .second-leads);
+      phi-below = λ k l. I .second .leads .g-null k (let h = I .sum in omega arith);
+      psi-below = λ k l. I .second .leads .f-null k (let h = I .sum in omega arith);
+      meets = holds-meets (I .second);
+      not-both-null = λ _. leads-nonnull (I .second .leads);
     }
