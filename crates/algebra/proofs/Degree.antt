@@ -71,17 +71,6 @@ module _ (F : Field) where
       by-degree (inl e) = yes e
       by-degree (inr t) = no (λ e. t .1 .top (ap (λ s. s (t .0)) e ∙ nullS-at R _))
 
-  pub dec-below : (n : ℕ) (f : Series R) → Below R f n → (m : ℕ) → Dec (Below R f m)
-  dec-below n f b m = by-degree (degree n f b)
-    where
-      compare : (a : ℕ) → HasDegree f a → Dec (a < m) → Dec (Below R f m)
-      compare a d (yes l) = yes (λ k l'. d .low k (omega arith))
-      compare a d (no l) = no (λ s. d .top (s a (omega arith)))
-
-      by-degree : NullOrDegree n f → Dec (Below R f m)
-      by-degree (inl e) = yes (λ k l. ap (λ t. t k) e ∙ nullS-at R k)
-      by-degree (inr t) = compare (t .0) (t .1) (decLt (t .0) m)
-
   -- a polynomial that is not null can be cancelled
   pub regular : (n : ℕ) (g : Series R) → Below R g n → g ≢ nullS R → (x y : Series R) → mulS R g x ≡ mulS R g y → x ≡ y
   regular n g b nz x y e = by-factor (no-zero-divisors F n g (addS R x (negS R y)) b (difference (seriesRing R) g x y e))

@@ -1,6 +1,6 @@
 -- The ideal of f 0, .., f (n - 1) and g, by its members; and for polynomials, the common divisor of such a family that is
 -- a member.
-use mathlib.Core.Path.{_≡_, sym, _∙_, ap, ap₂, subst}
+use mathlib.Core.Path.{_≡_, sym, _∙_, ap, ap₂}
 use Prim.Native.Nat.{ℕ, zero, suc, _<_}
 use native.Mathlib.Omega.{arith}
 use native.Mathlib.Decide.{ℕ-discrete}
@@ -29,30 +29,19 @@ module _ (R : Ring) (Allowed : R .Carrier → Type 0) where
   wider n f g (plus a b) = plus (wider n f g a) (wider n f g b)
   wider n f g (times c ok a) = times c ok (wider n f g a)
 
-  -- a member of the ideal of multiples of d is d times a member of the ideal of what is multiplied
-  pub swap : (d : Carrier) (n : ℕ) (f : ℕ → Carrier) (g : Carrier) (f' : ℕ → Carrier) (g' : Carrier)
-      → ((i : ℕ) → i < n → f i ≡ d ⊗ f' i) → g ≡ d ⊗ g'
-      → {x : Carrier} → Ideal R Allowed n f g x → (y : Carrier) × Ideal R Allowed n f' g' y × (x ≡ d ⊗ y)
-  swap d n f g f' g' ef eg (at i l) = (f' i, at i l, ef i l)
-  swap d n f g f' g' ef eg last = (g', last, eg)
-  swap d n f g f' g' ef eg (plus a b) =
-      let s = swap d n f g f' g' ef eg a in
-      let t = swap d n f g f' g' ef eg b in
-      (s .0 ⊕ t .0, plus (s .1) (t .1), ap₂ _⊕_ (s .2) (t .2) ∙ sym (mul-add R _ _ _))
-  swap d n f g f' g' ef eg (times c ok a) =
-      let s = swap d n f g f' g' ef eg a in
-      (c ⊗ s .0, times c ok (s .1), ap (λ t. c ⊗ t) (s .2) ∙ mul-left-comm R _ _ _)
-
-  -- h times a member is a member where all are multiplied by h, and one more f is there
-  pub lift : (h : Carrier) (n : ℕ) (f : ℕ → Carrier) (g : Carrier) (f' : ℕ → Carrier) (g' : Carrier)
-      → ((i : ℕ) → i < n → f' i ≡ h ⊗ f i) → g' ≡ h ⊗ g
-      → {x : Carrier} → Ideal R Allowed n f g x → Ideal R Allowed (suc n) f' g' (h ⊗ x)
-  lift h n f g f' g' ef eg (at i l) = subst (Ideal R Allowed (suc n) f' g') (ef i l) (at i (omega arith))
-  lift h n f g f' g' ef eg last = subst (Ideal R Allowed (suc n) f' g') eg last
-  lift h n f g f' g' ef eg (plus a b) =
-      subst (Ideal R Allowed (suc n) f' g') (sym (mul-add R _ _ _)) (plus (lift h n f g f' g' ef eg a) (lift h n f g f' g' ef eg b))
-  lift h n f g f' g' ef eg (times c ok a) =
-      subst (Ideal R Allowed (suc n) f' g') (mul-left-comm R _ _ _) (times c ok (lift h n f g f' g' ef eg a))
+  -- where h f i = d f' i for every i, and h g = d g': h times a member of the ideal of the f's and g is d times one of the ideal of the f''s and g'
+  pub proportional : (h d : Carrier) (n : ℕ) (f : ℕ → Carrier) (g : Carrier) (f' : ℕ → Carrier) (g' : Carrier)
+      → ((i : ℕ) → i < n → h ⊗ f i ≡ d ⊗ f' i) → h ⊗ g ≡ d ⊗ g'
+      → {x : Carrier} → Ideal R Allowed n f g x → (y : Carrier) × Ideal R Allowed n f' g' y × (h ⊗ x ≡ d ⊗ y)
+  proportional h d n f g f' g' ef eg (at i l) = (f' i, at i l, ef i l)
+  proportional h d n f g f' g' ef eg last = (g', last, eg)
+  proportional h d n f g f' g' ef eg (plus a b) =
+      let s = proportional h d n f g f' g' ef eg a in
+      let t = proportional h d n f g f' g' ef eg b in
+      (s .0 ⊕ t .0, plus (s .1) (t .1), mul-add R h _ _ ∙ ap₂ _⊕_ (s .2) (t .2) ∙ sym (mul-add R d _ _))
+  proportional h d n f g f' g' ef eg (times c ok a) =
+      let s = proportional h d n f g f' g' ef eg a in
+      (c ⊗ s .0, times c ok (s .1), mul-left-comm R h c _ ∙ ap (λ t. c ⊗ t) (s .2) ∙ mul-left-comm R c d _)
 
 module _ (F : Field) where
   open Field F using (ring as R)

@@ -1,3 +1,4 @@
+pub mod Counting
 pub mod Ring
 pub mod Identities
 pub mod Series

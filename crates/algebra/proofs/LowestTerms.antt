@@ -1,6 +1,6 @@
 -- Monic polynomials, and fractions in lowest terms with a monic denominator.
-use mathlib.Core.Path.{_≡_, refl, sym, _∙_, ap, ap₂, fun-ext}
-use mathlib.Core.Logic.{_≢_, inl, inr}
+use mathlib.Core.Path.{_≡_, sym, _∙_, ap, ap₂, fun-ext}
+use mathlib.Core.Logic.{_≢_}
 use Prim.Native.Nat.{ℕ, zero, suc, _+_, _≤_}
 use native.Mathlib.Omega.{arith}
 use native.Mathlib.Nat.{add-zero}
@@ -10,8 +10,8 @@ use Rattle.algebra.proofs.Series.{Series, addS, nullS, constS, scaleS, 
 use Rattle.algebra.proofs.Bounds.{Below, below-mul, below-zero, below-scale, below-constS, drop-top, Polynomial, polynomial-scale}
 use Rattle.algebra.proofs.Identities.{bezout-divided, bezout-scaled, multiple-scaled}
 use Rattle.algebra.proofs.Field.{Field}
-use Rattle.algebra.proofs.Degree.{HasDegree, NullOrDegree, degree, top-mul, regular}
-use Rattle.algebra.proofs.Euclid.{CommonDivisor, euclid}
+use Rattle.algebra.proofs.Degree.{HasDegree, top-mul, regular}
+use Rattle.algebra.proofs.Euclid.{CommonDivisor}
 
 module _ (F : Field) where
   open Field F using (ring as R, inv, inv-mul, one≢null)
@@ -151,13 +151,3 @@ module _ (F : Field) where
         r-polynomial = polynomial-scale R k _ (C .u-polynomial);
         s-polynomial = polynomial-scale R k _ (C .v-polynomial);
       }
-
-  pub lowest-terms : (phi psi : Series R) → Polynomial R phi → Polynomial R psi → psi ≢ nullS R → LowestTerms phi psi
-  lowest-terms phi psi pp ps nz = by-degree (degree F (C .g'-polynomial .0) (C .g') (C .g'-polynomial .1))
-    where
-      C : CommonDivisor F phi psi
-      C = euclid F (ps .0) phi psi pp (ps .1)
-
-      by-degree : NullOrDegree F (C .g'-polynomial .0) (C .g') → LowestTerms phi psi
-      by-degree (inl z) = absurd (nz (C .right-multiple ∙ ap (mulS R (C .divisor)) z ∙ mulS-null R (C .divisor)))
-      by-degree (inr t) = lowest-terms-of phi psi C nz (t .0) (t .1) (C .g' (t .0)) refl

@@ -2,12 +2,12 @@
 use mathlib.Core.Path.{_≡_, sym, _∙_, ap, subst}
 use mathlib.Core.Logic.{_≢_}
 use Prim.Native.Nat.{ℕ, zero, _<_}
-use Rattle.algebra.proofs.Ring.{Ring, mul-comm}
+use Rattle.algebra.proofs.Ring.{Ring, mul-comm, one-mul}
 use Rattle.algebra.proofs.Series.{Series, nullS, constS, mulS, constS-mul, null-mulS, seriesRing}
 use Rattle.algebra.proofs.Bounds.{Below, below-zero, drop-top, Polynomial, polynomial-add, polynomial-mul, polynomial-constS}
 use Rattle.algebra.proofs.Field.{Field}
 use Rattle.algebra.proofs.Degree.{unit-constant}
-use Rattle.algebra.proofs.Ideal.{at, last, plus, times, swap, InIdeal, FamilyDivisor, family-divisor}
+use Rattle.algebra.proofs.Ideal.{at, last, plus, times, proportional, InIdeal, FamilyDivisor, family-divisor}
 use Rattle.algebra.proofs.LowestTerms.{constant-of, scale-constS}
 
 module _ (F : Field) where
@@ -20,7 +20,8 @@ module _ (F : Field) where
       → ((i : ℕ) → i < n → Polynomial R (f' i)) → Polynomial R g'
       → ((i : ℕ) → i < n → f i ≡ mulS R d (f' i)) → g ≡ mulS R d g' → Below R d 1
 
-  member-polynomial : (n : ℕ) (f : ℕ → Series R) (g : Series R) → ((i : ℕ) → i < n → Polynomial R (f i)) → Polynomial R g
+  -- members of the ideal of polynomials are polynomials
+  pub member-polynomial : (n : ℕ) (f : ℕ → Series R) (g : Series R) → ((i : ℕ) → i < n → Polynomial R (f i)) → Polynomial R g
       → {x : Series R} → InIdeal F n f g x → Polynomial R x
   member-polynomial n f g pf pg (at i l) = pf i l
   member-polynomial n f g pf pg last = pg
@@ -29,8 +30,9 @@ module _ (F : Field) where
 
   pub reduced-of-ideal : (n : ℕ) (f : ℕ → Series R) (g : Series R) → InIdeal F n f g (constS R one) → Reduced n f g
   reduced-of-ideal n f g I d pd f' g' pf' pg' ef eg =
-      let t = swap (seriesRing R) (Polynomial R) d n f g f' g' ef eg I in
-      unit-constant F d (t .0) pd (member-polynomial n f' g' pf' pg' (t .1)) (sym (t .2))
+      let times-one = one-mul (seriesRing R) in
+      let t = proportional (seriesRing R) (Polynomial R) (constS R one) d n f g f' g' (λ i l. times-one (f i) ∙ ef i l) (times-one g ∙ eg) I in
+      unit-constant F d (t .0) pd (member-polynomial n f' g' pf' pg' (t .1)) (sym (t .2) ∙ times-one _)
 
   pub ideal-of-reduced : (n : ℕ) (f : ℕ → Series R) (g : Series R) → ((i : ℕ) → i < n → Polynomial R (f i)) → Polynomial R g
       → g ≢ nullS R → Reduced n f g → InIdeal F n f g (constS R one)

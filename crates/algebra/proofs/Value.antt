@@ -67,11 +67,11 @@ module _ (R : Ring) where
       rw (value-suc m, tail-mul, value-add, value-scale, value-mul a b m (tail R f) g x (below-tail R f a bf) bg (omega arith), value-suc a, e)
       (simp (ring, mulS-zero))
 
-  -- the same where one N is enough for both factors and for the product
-  pub value-mul-within : (a b c N : ℕ) (f g : Series R) (x : Carrier) → Below R f a → Below R g b → Below R (mulS R f g) c
-      → a ≤ N → b ≤ N → c ≤ N → value N (mulS R f g) x ≡ value N f x ⊗ value N g x
-  value-mul-within a b c N f g x bf bg bc la lb lc =
-      value-stable c N (mulS R f g) x bc lc
+  -- the same where m is enough for the product, and one N for both factors
+  pub value-mul-within : (a b c m N : ℕ) (f g : Series R) (x : Carrier) → Below R f a → Below R g b → Below R (mulS R f g) c
+      → c ≤ m → a ≤ N → b ≤ N → value m (mulS R f g) x ≡ value N f x ⊗ value N g x
+  value-mul-within a b c m N f g x bf bg bc lm la lb =
+      value-stable c m (mulS R f g) x bc lm
       ∙ sym (value-stable c (c + (a + b)) (mulS R f g) x bc (omega arith))
       ∙ value-mul a b (c + (a + b)) f g x bf bg (omega arith)
       ∙ sym (ap₂ _⊗_ (value-stable a N f x bf la) (value-stable b N g x bg lb))

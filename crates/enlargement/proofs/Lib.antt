@@ -1,4 +1,5 @@
 pub mod Exactly
 pub mod RowBytes
+pub mod Counting
 pub mod Enlarging
 pub mod Rule

@@ -1,11 +1,9 @@
-pub mod Counting
 pub mod PairLaws
 pub mod Interpolation
 pub mod Solution
+pub mod Vectors
 pub mod Problem
+pub mod Uniqueness
 pub mod CrossProduct
 pub mod Outputs
-pub mod Decision
-pub mod Tables
-pub mod Enlargement
-pub mod Witness
+pub mod LastTest

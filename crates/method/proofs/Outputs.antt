@@ -1,5 +1,5 @@
--- docs/METHOD.md, section 2: all outputs, one after the other. What the loop holds after i outputs, and each of its steps as a
--- theorem on any solution, any fraction in lowest terms and any family that continues the one before.
+-- docs/METHOD.md, All outputs: one after the other. What is held after i outputs, and each step as a theorem on any solution, any fraction
+-- in lowest terms and any family that continues the one before.
 use mathlib.Core.Path.{_≡_, sym, _∙_, ap, subst}
 use mathlib.Core.Logic.{_≢_, inl, inr}
 use Prim.Native.Nat.{ℕ, suc, _+_, _≤_, _<_}
@@ -9,12 +9,13 @@ use Rattle.algebra.proofs.Series.{Series, nullS, constS, mulS, seriesRing}
 use Rattle.algebra.proofs.Bounds.{Below, Polynomial, polynomial-mul}
 use Rattle.algebra.proofs.Field.{Field}
 use Rattle.algebra.proofs.Degree.{HasDegree, NullOrDegree, degree, degree-sum, factor-below}
-use Rattle.algebra.proofs.Ideal.{at, last, plus, times, lift, InIdeal}
+use Rattle.algebra.proofs.Ideal.{at, last, plus, times, wider, proportional, InIdeal}
 use Rattle.algebra.proofs.LowestTerms.{Monic, monic-degree, monic-mul, monic-one, LowestTerms}
-use Rattle.method.proofs.Counting.{below-suc}
+use Rattle.algebra.proofs.Counting.{below-suc}
 use Rattle.method.proofs.Solution.{Solves}
-use Rattle.method.proofs.Problem.{Problem, Answer, None, Ample}
-use Rattle.method.proofs.CrossProduct.{conditions, Multiple, Divided, multiple-nonnull, psi-nonnull, divide}
+use Rattle.method.proofs.Vectors.{Multiple}
+use Rattle.method.proofs.Problem.{Problem, Answer, None, Ample, phiDegree, psiDegree}
+use Rattle.method.proofs.CrossProduct.{conditions, Divided, multiple-nonnull, psi-nonnull, divide}
 
 module _ (F : Field) where
   open Field F using (ring as R)
@@ -29,7 +30,7 @@ module _ (F : Field) (N : ℕ) (T : Problem (F .ring)) where
   open Field F using (ring as R, one≢null)
   open Ring R using (one)
 
-  -- what the loop holds after i outputs: the denominator G of degree d, the numerators Fs
+  -- what is held after i outputs: the denominator G of degree d, the numerators Fs
   pub record Candidate (i : ℕ) (Fs : ℕ → Series R) (G : Series R) (d : ℕ) : Type 0 where
     pub monic : Monic F G d
     pub fits : d ≤ T .denominatorBound
@@ -45,7 +46,7 @@ module _ (F : Field) (N : ℕ) (T : Problem (F .ring)) where
     coprime = last;
     multiple = λ f g a. record {
       q = g;
-      q-polynomial = (suc (T .denominatorBound), a .denominator-below);
+      q-polynomial = (suc (T .denominatorBound), a .vector .denominator-below);
       denominator = sym (one-mul (seriesRing R) g);
       numerators = λ j l. absurd (omega arith);
     };
@@ -53,7 +54,7 @@ module _ (F : Field) (N : ℕ) (T : Problem (F .ring)) where
 
   module _ (H : Ample F T) (capacity : T .count < N) {i : ℕ} (li : i < T .outputs) {Fs : ℕ → Series R} {G : Series R} {d : ℕ}
       (C : Candidate i Fs G d) {phi psi : Series R}
-      (S : Solves R (H .A) (T .denominatorBound + T .errors) N (conditions F N G i (T .row)) (T .count) phi psi) where
+      (S : Solves R (phiDegree T) (psiDegree T) N (conditions F N G i (T .row)) (T .count) phi psi) where
     pub none-if-psi-null : psi ≡ nullS R → None F N T
     none-if-psi-null z f g a = psi-nonnull F N T f g a H capacity i li Fs G d (C .monic) (C .fits) (C .multiple f g a) phi psi S z
 
@@ -87,14 +88,14 @@ module _ (F : Field) (N : ℕ) (T : Problem (F .ring)) where
 
         answer-denominator : Below R (mulS R G h) (suc (T .denominatorBound))
         answer-denominator = below-through _ (polynomial-mul R _ _ (suc d, C .monic .low) (suc (W .degree), W .monic .low))
-            (through G (C .multiple f g a .denominator)) (a .denominator-below)
+            (through G (C .multiple f g a .denominator)) (a .vector .denominator-below)
 
         answer-new : Below R a' (suc (T .bound i))
-        answer-new = below-through _ (W .numerator-polynomial) (D .f-equation) (a .numerators-below i li)
+        answer-new = below-through _ (W .numerator-polynomial) (D .f-equation) (a .vector .numerators-below i li)
 
         answer-old : (j : ℕ) → j < i → Below R (mulS R (Fs j) h) (suc (T .bound j))
         answer-old j l = below-through _ (polynomial-mul R _ _ (suc (T .bound j), C .numerators-below j l) (suc (W .degree), W .monic .low))
-            (through (Fs j) (C .multiple f g a .numerators j l)) (a .numerators-below j (omega arith))
+            (through (Fs j) (C .multiple f g a .numerators j l)) (a .vector .numerators-below j (omega arith))
 
       new-monic : Monic F (mulS R G h) (d + W .degree)
       new-monic = monic-mul F G h d (W .degree) (C .monic) (W .monic)
@@ -112,10 +113,15 @@ module _ (F : Field) (N : ℕ) (T : Problem (F .ring)) where
           absurd (omega arith)
 
       module _ {Fs' : ℕ → Series R} {G' : Series R} (X : Extends F i Fs G (W .numerator) (W .denominator) Fs' G') where
-        pub none-if-numerator-too-long : (((j : ℕ) → j < suc i → Below R (Fs' j) (suc (T .bound j))) → ⊥) → None F N T
-        none-if-numerator-too-long long f g a = long (below-suc (λ j. Below R (Fs' j) (suc (T .bound j))) i
-            (λ j l. subst (λ t. Below R t (suc (T .bound j))) (sym (X .old j l)) (answer-old f g a j l))
-            (subst (λ t. Below R t (suc (T .bound i))) (sym (X .new)) (answer-new f g a)))
+        -- 1 was in the ideal, so h is in the new one
+        h-member : InIdeal F (suc i) Fs' G' h
+        h-member = wider (seriesRing R) (Polynomial R) i Fs' G'
+            (subst (InIdeal F i Fs' G') (sym (one-mul (seriesRing R) _) ∙ sym (times-h .2) ∙ mul-one (seriesRing R) h) (times-h .1))
+          where
+            times-h : (y : Series R) × InIdeal F i Fs' G' y × (mulS R h (constS R one) ≡ mulS R (constS R one) y)
+            times-h = proportional (seriesRing R) (Polynomial R) h (constS R one) i Fs G Fs' G'
+                (λ j l. mul-comm (seriesRing R) h (Fs j) ∙ sym (X .old j l) ∙ sym (one-mul (seriesRing R) (Fs' j)))
+                (mul-comm (seriesRing R) h G ∙ sym (X .denominator) ∙ sym (one-mul (seriesRing R) G')) (C .coprime)
 
         pub next-candidate : d + W .degree ≤ T .denominatorBound → ((j : ℕ) → j < suc i → Below R (Fs' j) (suc (T .bound j)))
             → Candidate (suc i) Fs' G' (d + W .degree)
@@ -125,9 +131,7 @@ module _ (F : Field) (N : ℕ) (T : Problem (F .ring)) where
           numerators-below = below;
           coprime = subst (InIdeal F (suc i) Fs' G') (W .bezout) (plus
               (times (W .r) (W .r-polynomial) (subst (InIdeal F (suc i) Fs' G') (X .new) (at i (omega arith))))
-              (times (W .s) (W .s-polynomial) (subst (InIdeal F (suc i) Fs' G') (mul-one (seriesRing R) h)
-              (lift (seriesRing R) (Polynomial R) h i Fs G Fs' G' (λ j l. X .old j l ∙ mul-comm (seriesRing R) (Fs j) h)
-              (X .denominator ∙ mul-comm (seriesRing R) G h) (C .coprime)))));
+              (times (W .s) (W .s-polynomial) h-member));
           multiple = λ f g a. record {
             q = D f g a .rest;
             q-polynomial = D f g a .rest-polynomial;

@@ -1,5 +1,5 @@
--- Two operations on polynomials that the interpolation uses, combination c f - c' g and multiplication by u - x:
--- what each does to values, to the coefficients that vanish, and to the leading coefficient.
+-- Two operations on polynomials that the interpolation uses, combination c f - c' g and multiplication by u - x: what each does to
+-- values, to the coefficients that vanish, and to the leading coefficient.
 use mathlib.Core.Path.{_≡_, sym, _∙_, ap}
 use mathlib.Core.Logic.{_≢_}
 use Prim.Native.Nat.{ℕ, zero, suc, _+_, _≤_, _<_}
@@ -7,7 +7,7 @@ use native.Mathlib.Omega.{arith}
 use Rattle.algebra.proofs.Ring.{Ring, ring, null-add, mul-null}
 use Rattle.algebra.proofs.Series.{Series, addS, negS, nullS, constS, scaleS, mulS, addS-at, negS-at, scaleS-at, nullS-at, constS-zero, constS-suc}
 use Rattle.algebra.proofs.Bounds.{Below, below-mono, below-mul, below-add, below-neg, below-scale}
-use Rattle.algebra.proofs.Value.{value, value-add, value-neg, value-scale, value-stable, linear, linear-below, linear-mul-zero, linear-mul-suc, value-linear-mul}
+use Rattle.algebra.proofs.Value.{value, value-add, value-neg, value-scale, value-stable, linear, linear-below, linear-mul-zero, linear-mul-suc, value-linear, value-mul-within}
 use Rattle.algebra.proofs.Field.{Field, cancel}
 
 module _ (R : Ring) where
@@ -20,7 +20,7 @@ module _ (R : Ring) where
   unfoldable pub combine : Carrier → Series R → Carrier → Series R → Series R
   combine c f c' g = addS R (scaleS R c f) (negS R (scaleS R c' g))
 
-  pub combine-at : (c : Carrier) (f : Series R) (c' : Carrier) (g : Series R) (k : ℕ) → combine c f c' g k ≡ c ⊗ f k ⊕ ⊖ (c' ⊗ g k)
+  combine-at : (c : Carrier) (f : Series R) (c' : Carrier) (g : Series R) (k : ℕ) → combine c f c' g k ≡ c ⊗ f k ⊕ ⊖ (c' ⊗ g k)
   unfolding combine
   combine-at c f c' g k = rw (addS-at, negS-at, scaleS-at, scaleS-at)
 
@@ -40,47 +40,44 @@ module _ (R : Ring) where
   pub value-linear-within : (N k : ℕ) (f : Series R) (x y : Carrier) → Below R f (suc k) → suc k < N
       → value R N (mulS R (linear R x) f) y ≡ (y ⊕ ⊖ x) ⊗ value R N f y
   value-linear-within N k f x y h l =
-      value-stable R (suc (suc k)) N _ y (below-linear-mul x f k h) (omega arith)
-      ∙ sym (value-stable R (suc (suc k)) (2 + suc k) _ y (below-linear-mul x f k h) (omega arith))
-      ∙ value-linear-mul R (suc k) f x y h
-      ∙ ap (λ t. (y ⊕ ⊖ x) ⊗ t) (sym (value-stable R (suc k) N f y h (omega arith)))
+      value-mul-within R 2 (suc k) (suc (suc k)) N N (linear R x) f y (linear-below R x) h (below-linear-mul x f k h) (omega arith) (omega arith) (omega arith)
+      ∙ ap (λ t. t ⊗ value R N f y) (value-stable R 2 N (linear R x) y (linear-below R x) (omega arith) ∙ value-linear R x y)
 
-  -- f[m] = 0 where e ≤ m + B
-  abbrev pub NullFrom : Series R → ℕ → ℕ → Type 0
-  NullFrom f e B = (m : ℕ) → e ≤ m + B → f m ≡ null
+  -- f[m] = 0 where e ≤ m + A
+  abbrev NullFrom : Series R → ℕ → ℕ → Type 0
+  NullFrom f e A = (m : ℕ) → e ≤ m + A → f m ≡ null
 
-  -- f[e - B] is not 0, and B ≤ e
-  pub record LeadsAt (f : Series R) (e B : ℕ) : Type 0 where
-    pub fits : B ≤ e
-    pub nonnull : (t : ℕ) → t + B ≡ e → f t ≢ null
+  nullFrom-linear : (x : Carrier) (f : Series R) (e A : ℕ) → NullFrom f e A → NullFrom (mulS R (linear R x) f) (suc e) A
+  nullFrom-linear x f e A h zero l = rw (linear-mul-zero, h zero (omega arith)) (mul-null R _)
+  nullFrom-linear x f e A h (suc m) l = rw (linear-mul-suc, h (suc m) (omega arith), h m (omega arith)) (simp ring)
 
-  pub nullFrom-mono : (f : Series R) (e e' B : ℕ) → e ≤ e' → NullFrom f e B → NullFrom f e' B
-  nullFrom-mono f e e' B l h m l' = h m (omega arith)
+  nullFrom-combine : (c : Carrier) (f : Series R) (c' : Carrier) (g : Series R) (e A : ℕ)
+      → NullFrom f e A → NullFrom g e A → NullFrom (combine c f c' g) e A
+  nullFrom-combine c f c' g e A hf hg m l = rw (combine-at, hf m l, hg m l) (simp ring)
 
-  pub nullFrom-linear : (x : Carrier) (f : Series R) (e B : ℕ) → NullFrom f e B → NullFrom (mulS R (linear R x) f) (suc e) B
-  nullFrom-linear x f e B h zero l = rw (linear-mul-zero, h zero (omega arith)) (mul-null R _)
-  nullFrom-linear x f e B h (suc m) l = rw (linear-mul-suc, h (suc m) (omega arith), h m (omega arith)) (simp ring)
-
-  pub nullFrom-combine : (c : Carrier) (f : Series R) (c' : Carrier) (g : Series R) (e B : ℕ)
-      → NullFrom f e B → NullFrom g e B → NullFrom (combine c f c' g) e B
-  nullFrom-combine c f c' g e B hf hg m l = rw (combine-at, hf m l, hg m l) (simp ring)
-
-  pub nullFrom-constS : (c : Carrier) (B : ℕ) → NullFrom (constS R c) (suc B) B
-  nullFrom-constS c B zero l = absurd (omega arith)
-  nullFrom-constS c B (suc m) l = constS-suc R c m
-
-  pub nullFrom-nullS : (e B : ℕ) → NullFrom (nullS R) e B
-  nullFrom-nullS e B m l = nullS-at R m
+  -- a pair with the number e that leads in f: f[e - A] is its last coefficient that is not 0, and g[m] = 0 where t + e ≤ m + B; t is 0 for
+  -- the pair that leads in the numerator, and 1 for the other
+  pub record Leading (f : Series R) (A : ℕ) (g : Series R) (B t e : ℕ) : Type 0 where
+    pub fits : A ≤ e
+    pub top : (m : ℕ) → m + A ≡ e → f m ≢ null
+    pub f-null : (m : ℕ) → suc e ≤ m + A → f m ≡ null
+    pub g-null : (m : ℕ) → t + e ≤ m + B → g m ≡ null
 
   -- the leading coefficient of (u - x) f is that of f
-  pub leadsAt-linear : (x : Carrier) (f : Series R) (e B : ℕ) → NullFrom f (suc e) B → LeadsAt f e B → LeadsAt (mulS R (linear R x) f) (suc e) B
-  leadsAt-linear x f e B h lead = record { fits = (let l = lead .fits in omega arith); nonnull = go }
+  pub leading-linear : (x : Carrier) {f : Series R} {A : ℕ} {g : Series R} {B t e : ℕ} → Leading f A g B t e
+      → Leading (mulS R (linear R x) f) A (mulS R (linear R x) g) B t (suc e)
+  leading-linear x {f} {A} {g} {B} {t} {e} L = record {
+    fits = (let l = L .fits in omega arith);
+    top = top;
+    f-null = nullFrom-linear x f (suc e) A (L .f-null);
+    g-null = λ m l. nullFrom-linear x g (t + e) B (L .g-null) m (omega arith);
+  }
     where
-      go : (t : ℕ) → t + B ≡ suc e → mulS R (linear R x) f t ≢ null
-      go zero p q = absurd (let l = lead .fits in omega arith)
-      go (suc t) p q = lead .nonnull t (omega arith)
-          (let r : ⊖ x ⊗ f (suc t) ⊕ f t ≡ null = sym (linear-mul-suc R x f t) ∙ q in
-          simp (h (suc t) (omega arith), mul-null, null-add) at r)
+      top : (m : ℕ) → m + A ≡ suc e → mulS R (linear R x) f m ≢ null
+      top zero p q = absurd (let l = L .fits in omega arith)
+      top (suc m) p q = L .top m (omega arith)
+          (let r : ⊖ x ⊗ f (suc m) ⊕ f m ≡ null = sym (linear-mul-suc R x f m) ∙ q in
+          simp (L .f-null (suc m) (omega arith), mul-null, null-add) at r)
 
 module _ (F : Field) where
   open Field F using (ring as R, one≢null)
@@ -89,21 +86,28 @@ module _ (F : Field) where
   infixl 60 _⊕_
   infixl 70 _⊗_
   infix 80 ⊖_
-  -- the leading coefficient of c f - c' g is c times that of f, where g is shorter
-  pub leadsAt-combine : (c : Carrier) (f : Series R) (c' : Carrier) (g : Series R) (e B : ℕ) → c ≢ null
-      → NullFrom R g e B → LeadsAt R f e B → LeadsAt R (combine R c f c' g) e B
-  leadsAt-combine c f c' g e B nz short lead = record {
-    fits = lead .fits;
-    nonnull = λ t p q. lead .nonnull t p (cancel F c (f t) nz
-        (sym (alone (c ⊗ f t) c' (g t) (short t (omega arith))) ∙ sym (combine-at R c f c' g t) ∙ q));
+  -- c times a pair less c' times one that leads in the other polynomial and is shorter: the leading coefficient is c times that of f
+  pub leading-combine : {c : Carrier} (c' : Carrier) {f g f' g' : Series R} {A B t t' e e' : ℕ} → c ≢ null → Leading R f A g B t e → Leading R f' B g' A t' e'
+      → t' + e' ≤ e → suc e' ≤ t + e → Leading R (combine R c f c' g') A (combine R c g c' f') B t e
+  leading-combine {c} c' {f} {g} {f'} {g'} {A} {B} {t} {t'} {e} {e'} nz L L' short short' = record {
+    fits = L .fits;
+    top = λ m p q. L .top m p (cancel F c (f m) nz
+        (sym (alone (c ⊗ f m) c' (g' m) (L' .g-null m (omega arith))) ∙ sym (combine-at R c f c' g' m) ∙ q));
+    f-null = nullFrom-combine R c f c' g' (suc e) A (L .f-null) (λ m l. L' .g-null m (omega arith));
+    g-null = nullFrom-combine R c g c' f' (t + e) B (L .g-null) (λ m l. L' .f-null m (omega arith));
   }
     where
       alone : (a c' b : Carrier) → b ≡ null → a ⊕ ⊖ (c' ⊗ b) ≡ a
       alone a c' b e = rw e (simp ring)
 
-  pub leadsAt-one : (B : ℕ) → LeadsAt R (constS R one) B B
-  leadsAt-one B = record { fits = omega arith; nonnull = go }
+  -- the pair of 1 and 0
+  pub leading-one : (A B t : ℕ) → Leading R (constS R one) A (nullS R) B t A
+  leading-one A B t = record { fits = omega arith; top = top; f-null = f-null; g-null = λ m l. nullS-at R m }
     where
-      go : (t : ℕ) → t + B ≡ B → constS R one t ≢ null
-      go zero p q = one≢null (sym (constS-zero R one) ∙ q)
-      go (suc t) p q = absurd (omega arith)
+      top : (m : ℕ) → m + A ≡ A → constS R one m ≢ null
+      top zero p q = one≢null (sym (constS-zero R one) ∙ q)
+      top (suc m) p q = absurd (omega arith)
+
+      f-null : (m : ℕ) → suc A ≤ m + A → constS R one m ≡ null
+      f-null zero l = absurd (omega arith)
+      f-null (suc m) l = constS-suc R one m

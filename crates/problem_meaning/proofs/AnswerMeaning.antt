@@ -10,9 +10,10 @@ use lib.Dec.{ltb}
 use borrow.Author.Tests.{le-ltb}
 use Rattle.algebra.proofs.Series.{Series}
 use Rattle.algebra.proofs.Value.{value}
-use Rattle.method.proofs.Problem.{Answer as MethodAnswer, Right, wrongCount as methodWrongCount, wrongCount-right, wrongCount-wrong, wrongCount-all-right, Evaluation, Problem}
+use Rattle.method.proofs.Vectors.{ReducedVector}
+use Rattle.method.proofs.Problem.{Answer as MethodAnswer, Right, wrongCount as methodWrongCount, wrongCount-zero, wrongCount-right, wrongCount-wrong, Evaluation}
 use Rattle.reciprocal.proofs.PrimeField.{Residue, residue, residue-mul, equal-residue}
-use Rattle.format.specs.Bounds.{primeOf, Sized}
+use Rattle.format.specs.Bounds.{primeOf, numeratorBoundOf, Sized}
 use Rattle.poly.specs.Coefficients.{at}
 use Rattle.poly.specs.Operations.{valueOf}
 use Rattle.poly.proofs.Lists.{at-past, at-tabulate, length-tabulate}
@@ -24,14 +25,12 @@ use Rattle.rows.proofs.Entries.{points-at, values-at}
 use Rattle.job.proofs.Facts.{WellFormedFacts}
 use Rattle.word.specs.Word.{flagOf, countBelow}
 use Rattle.problem.proofs.Rows.{right-all, all-right}
+use Rattle.problem.specs.Reduced.{Reduced}
 use Rattle.problem.specs.Answers.{wrongAt, Within, Answer}
 use Rattle.problem_meaning.proofs.Tables.{P, R, F, poly, evaluation, problem, Usable}
 use Rattle.problem_meaning.proofs.Coprime.{coprime-means, means-coprime}
 
 module _ (s : List ℕ) {area : ℕ} (W : WellFormedFacts s area) where
-  abbrev T : Problem (R (boundsOf s))
-  T = problem (boundsOf s) (jobPoints s) (jobValues s)
-
   abbrev p : ℕ
   p = primeOf (boundsOf s)
 
@@ -115,7 +114,7 @@ module _ (s : List ℕ) {area : ℕ} (W : WellFormedFacts s area) where
     pub count-means : (L : ℕ) → L ≤ boundsOf s .rows
         → countBelow L (wrongAt s f g) ≡ methodWrongCount (F (boundsOf s)) 32 (boundsOf s .outputs) fs gs row L
     unfolding countBelow
-    count-means zero l = sym (wrongCount-all-right (F (boundsOf s)) 32 (boundsOf s .outputs) fs gs row 0 (λ k h. absurd (omega arith)))
+    count-means zero l = sym (wrongCount-zero (F (boundsOf s)) 32 (boundsOf s .outputs) fs gs row)
     count-means (suc r) l = by (wrongAt s f g r) refl (count-means r (omega arith))
       where
         by : (w : Bool) → wrongAt s f g r ≡ w
@@ -129,17 +128,24 @@ module _ (s : List ℕ) {area : ℕ} (W : WellFormedFacts s area) where
             (λ ok. let right = means-right r l ok in let clash : true ≡ false = sym e ∙ right in let z : _≡_ {A = ℕ} 0 1 = cc in omega arith) in
             omega arith
 
+  -- a reduced vector within the bounds, and an answer
+  pub vector-means : {f : ℕ → List ℕ} {g : List ℕ} → Within (boundsOf s) f g → Reduced (primeOf (boundsOf s)) (boundsOf s .outputs) f g
+      → ReducedVector (F (boundsOf s)) (boundsOf s .outputs) (numeratorBoundOf (boundsOf s)) (boundsOf s .dg) (λ i. poly (boundsOf s) (f i)) (poly (boundsOf s) g)
+  vector-means {f} {g} within reduced = record {
+    numerators-below = λ i li k l. series-below p (P (boundsOf s)) (within .numerators i li) k (omega arith);
+    denominator-below = λ k l. series-below p (P (boundsOf s)) (within .denominator) k (omega arith);
+    degree = reduced .monic .degree;
+    monic = record {
+      top = series-at p (P (boundsOf s)) g _ ∙ ap ρ (reduced .monic .leading);
+      low = λ k l. series-at p (P (boundsOf s)) g k ∙ ap ρ (reduced .monic .above k (omega arith));
+    };
+    reduced = coprime-means p (P (boundsOf s)) (boundsOf s .outputs) f g (reduced .coprime);
+  }
+
   pub answer-means : {f : ℕ → List ℕ} {g : List ℕ} → Answer s f g
       → MethodAnswer (F (boundsOf s)) 32 (problem (boundsOf s) (jobPoints s) (jobValues s)) (λ i. poly (boundsOf s) (f i)) (poly (boundsOf s) g)
-  answer-means {f} {g} a = record {
-    numerators-below = λ i li k l. series-below p (P (boundsOf s)) (a .within .numerators i li) k (omega arith);
-    denominator-below = λ k l. series-below p (P (boundsOf s)) (a .within .denominator) k (omega arith);
-    degree = a .reduced .monic .degree;
-    monic = record {
-      top = series-at p (P (boundsOf s)) g _ ∙ ap ρ (a .reduced .monic .leading);
-      low = λ k l. series-at p (P (boundsOf s)) g k ∙ ap ρ (a .reduced .monic .above k (omega arith));
-    };
-    reduced = coprime-means p (P (boundsOf s)) (boundsOf s .outputs) f g (a .reduced .coprime);
+  answer-means a = record {
+    vector = vector-means (a .within) (a .reduced);
     few-wrong = (let e = count-means (a .within) (boundsOf s .rows) (omega arith) in let h = a .few-wrong in omega arith);
   }
 
@@ -150,17 +156,17 @@ module _ (s : List ℕ) {area : ℕ} (W : WellFormedFacts s area) where
     within = within;
     reduced = record {
       monic = record {
-        degree = a .degree;
+        degree = a .vector .degree;
         leading = leading;
-        above = λ k l. residue-zero p (P (boundsOf s)) (at g k) (within .denominator .residues k) (sym (series-at p (P (boundsOf s)) g k) ∙ a .monic .low k (omega arith));
+        above = λ k l. residue-zero p (P (boundsOf s)) (at g k) (within .denominator .residues k) (sym (series-at p (P (boundsOf s)) g k) ∙ a .vector .monic .low k (omega arith));
       };
-      coprime = means-coprime p (P (boundsOf s)) (boundsOf s .outputs) f g (a .reduced);
+      coprime = means-coprime p (P (boundsOf s)) (boundsOf s .outputs) f g (a .vector .reduced);
     };
     few-wrong = (let e = count-means within (boundsOf s .rows) (omega arith) in let h = a .few-wrong in omega arith);
   }
     where
-      leading : at g (a .degree) ≡ 1
+      leading : at g (a .vector .degree) ≡ 1
       leading =
           let two = P (boundsOf s) .two in
-          sym (mod-eq-of-lt (within .denominator .residues (a .degree)))
-          ∙ equal-residue p (P (boundsOf s)) _ 1 (sym (series-at p (P (boundsOf s)) g (a .degree)) ∙ a .monic .top) ∙ mod-eq-of-lt (omega arith)
+          sym (mod-eq-of-lt (within .denominator .residues (a .vector .degree)))
+          ∙ equal-residue p (P (boundsOf s)) _ 1 (sym (series-at p (P (boundsOf s)) g (a .vector .degree)) ∙ a .vector .monic .top) ∙ mod-eq-of-lt (omega arith)

@@ -3,7 +3,7 @@ use mathlib.Core.Path.{_≡_, sym, _∙_, ap}
 use mathlib.Core.List.{List}
 use Prim.Native.Nat.{ℕ, _<_}
 use native.Mathlib.Nat.{mod-eq-of-lt}
-use Rattle.method.proofs.Decision.{unique}
+use Rattle.method.proofs.Uniqueness.{unique}
 use Rattle.reciprocal.proofs.PrimeField.{equal-residue}
 use Rattle.format.specs.Bounds.{primeOf}
 use Rattle.poly.specs.Coefficients.{at, Bounded}

@@ -63,13 +63,12 @@ module _ (b : Bounds) (points values : List ℕ) (U : Usable b points) where
   abbrev T : Problem (R b)
   T = problem b points values
 
-  unfoldable pub ample : Ample (F b) (problem b points values)
+  pub ample : Ample (F b) (problem b points values)
   ample = record {
     distinct = λ i j l l' e. U .distinct i j l l'
         (sym (mod-eq-of-lt (U .points-below i)) ∙ equal-residue p (P b) _ _ e ∙ mod-eq-of-lt (U .points-below j));
-    A = b .rows - 1 - (b .dg + b .errors);
-    rows = (let h = U .sized .enough 0 in omega arith);
-    room = λ i l. (let h = U .sized .enough i in omega arith);
+    room = (let h = U .sized .enough 0 in omega arith);
+    enough = λ i l. (let h = U .sized .enough i in omega arith);
   }
 
   pub capacity : b .rows < 32

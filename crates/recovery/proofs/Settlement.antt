@@ -6,7 +6,7 @@ use mathlib.Core.List.{List}
 use Prim.Native.Nat.{ℕ, _≤_, _<_}
 use native.Mathlib.Omega.{arith}
 use Rattle.method.proofs.Problem.{None}
-use Rattle.method.proofs.Decision.{candidate-is-answer, none-if-many-wrong}
+use Rattle.method.proofs.LastTest.{candidate-is-answer, none-if-many-wrong}
 use Rattle.header.specs.Header.{boundsOf}
 use Rattle.rows.specs.Rows.{jobPoints, jobValues}
 use Rattle.job.proofs.Facts.{WellFormedFacts}

@@ -85,7 +85,7 @@ module _ (b : Bounds) (points values : List ℕ) (U : Usable b points) where
 
   -- One output more: c holds the first i, and a / h is output i's fraction, in lowest terms, in units of 1 / g.
   module _ {i : ℕ} (li : i < b .outputs) {c : Candidate} (sc : c .solvable ≡ true) (G : Good i c) {phi psi : Series (R b)}
-      (S : Solves (R b) (ample b points values U .A) (slackOf b) 32 (conditions (F b) 32 (poly b (c .g .c)) i (evaluation b points values)) (b .rows) phi psi)
+      (S : Solves (R b) (b .rows - 1 - slackOf b) (slackOf b) 32 (conditions (F b) 32 (poly b (c .g .c)) i (evaluation b points values)) (b .rows) phi psi)
       (W : LowestTerms (F b) phi psi) {a h : List ℕ} (ea : W .numerator ≡ poly b a) (eh : W .denominator ≡ poly b h)
       (ba : Bounded p 32 a) (bh : Bounded p 32 h) (lh : lengthOf h ≡ suc (W .degree)) where
     i-small : i < 4

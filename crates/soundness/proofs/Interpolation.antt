@@ -1,4 +1,4 @@
--- The pairs that the code makes, row by row, are those of docs/METHOD.md, section 1, over the residues modulo p.
+-- The pairs that the code makes, row by row, are those of docs/METHOD.md, One output, over the residues modulo p.
 use mathlib.Core.Path.{_≡_, refl, sym, _∙_, ap, ap₂, subst}
 use mathlib.Core.Logic.{_≢_}
 use mathlib.Core.List.{List}
@@ -7,22 +7,19 @@ use native.Mathlib.Nat.{mod-lt}
 use native.Mathlib.Numerals.{add-one}
 use native.Mathlib.Decide.{decLe, ℕ-discrete}
 use native.Mathlib.Omega.{arith}
+use lib.ListN.{length}
 use Rattle.algebra.proofs.Ring.{Ring, neg-mul, one-mul}
 use Rattle.algebra.proofs.Field.{Field}
-use Rattle.algebra.proofs.Series.{Series, constS, mulS, nullS}
-use Rattle.algebra.proofs.Value.{linear}
+use Rattle.algebra.proofs.Series.{Series, constS, nullS}
 use Rattle.method.proofs.PairLaws.{combine}
 use Rattle.method.proofs.Interpolation.{
   Condition,
-  Pairs as SeriesPairs,
+  Pair as SeriesPair,
   discrepancy,
   discrepancy-at,
+  advanced,
+  combined,
   Invariant,
-  start,
-  advanceFirst,
-  advanceSecond,
-  combineSecond,
-  combineFirst,
   start-invariant,
   keep-both,
   advance-first,
@@ -32,10 +29,11 @@ use Rattle.method.proofs.Interpolation.{
 }
 use Rattle.method.proofs.Solution.{Solves, first-solves, second-solves}
 use Rattle.field.proofs.Primality.{IsPrime}
-use Rattle.reciprocal.proofs.PrimeField.{Residue, residue, residue-add, residue-mul, residue-neg, residueRing, residueField}
+use Rattle.reciprocal.proofs.PrimeField.{residue, residue-add, residue-mul, residue-neg, residueRing, residueField}
 use Rattle.poly.specs.Coefficients.{at}
-use Rattle.poly.specs.Operations.{valueOf}
+use Rattle.poly.specs.Operations.{valueOf, timesLinearOf, combinationOf}
 use Rattle.poly.specs.Vectors.{onePoly, zeroPoly}
+use Rattle.poly.proofs.Lists.{length-tabulate}
 use Rattle.poly.proofs.Bounds.{bounded-times-linear, bounded-combination}
 use Rattle.poly_meaning.proofs.Series.{
   series,
@@ -51,7 +49,6 @@ use Rattle.pairs.specs.declared.Pair.{Pair}
 use Rattle.pairs.specs.Pairs.{
   Pairs,
   PairBounded,
-  PairsBounded,
   discrepancyOf,
   advancedOf,
   combinedOf,
@@ -81,25 +78,20 @@ module _ (p : ℕ) (P : IsPrime p) where
   F = residueField p P
 
   -- a pair of lists that the code holds, as a pair of polynomials
-  abbrev pub meaning : Pairs → SeriesPairs (residueRing p P)
-  meaning s =
-      record {
-        a0 = series p P (s .first .a .c);
-        b0 = series p P (s .first .b .c);
-        e0 = s .first .e;
-        a1 = series p P (s .second .a .c);
-        b1 = series p P (s .second .b .c);
-        e1 = s .second .e;
-      }
+  abbrev pub meaning : Pair → SeriesPair (residueRing p P)
+  meaning s = record { a = series p P (s .a .c); b = series p P (s .b .c); e = s .e }
+
+  same-pair : {a a' b b' : Series R} {e e' : ℕ} → a ≡ a' → b ≡ b' → e ≡ e'
+      → _≡_ {A = SeriesPair R} (record { a = a; b = b; e = e }) (record { a = a'; b = b'; e = e' })
+  same-pair ea eb ee = cc
 
   -- the condition a(x) = z b(x)
   abbrev pub condition : ℕ → ℕ → Condition (residueRing p P)
   condition x z = record { x = residue p P x; c = residue p P 1; z = residue p P z }
 
   -- what the discrepancy means, for polynomials within 32 coefficients
-  pub discrepancy-means : {n : ℕ} (x z : ℕ) (s : Pair) → z < p → PairBounded p n s → n ≤ 32
-      → residue p P (discrepancyOf p x z s)
-      ≡ discrepancy (residueRing p P) 32 (condition x z) (series p P (s .a .c)) (series p P (s .b .c))
+  discrepancy-means : {n : ℕ} (x z : ℕ) (s : Pair) → z < p → PairBounded p n s → n ≤ 32
+      → residue p P (discrepancyOf p x z s) ≡ discrepancy R 32 (condition x z) (meaning s)
   unfolding discrepancyOf
   discrepancy-means x z s l b n =
       let va = valueOf p x (s .a .c) in
@@ -108,58 +100,54 @@ module _ (p : ℕ) (P : IsPrime p) where
       ∙ ap₂ (R .add)
       (value-means-bounded p P 32 x (b .left) n ∙ sym (one-mul R _))
       (sym (residue-mul p P (p - z) vb) ∙ ap₂ (R .mul) (sym (residue-neg p P z l)) (value-means-bounded p P 32 x (b .right) n) ∙ neg-mul R _ _)
-      ∙ sym (discrepancy-at R 32 (condition x z) _ _)
+      ∙ sym (discrepancy-at R 32 (condition x z) (meaning s))
 
-  -- the numbers of a raised and of a combined pair
-  advanced-number : (x : ℕ) (s : Pair) → advancedOf p x s .e ≡ suc (s .e)
-  unfolding advancedOf
-  advanced-number x s = add-one (s .e)
+  -- a pair of the code: two lists of 32 numbers below p, which are 0 from n on
+  pub record Lists (n : ℕ) (t : Pair) : Type 0 where
+    pub bounded : PairBounded p n t
+    pub left-size : length (t .a .c) ≡ 32
+    pub right-size : length (t .b .c) ≡ 32
 
-  combined-number : (d : ℕ) (s : Pair) (c : ℕ) (t : Pair) → combinedOf p d s c t .e ≡ s .e
-  unfolding combinedOf
-  combined-number d s c t = refl
+  -- its lists mean the pair m
+  record Reads (n : ℕ) (t : Pair) (m : SeriesPair R) : Type 0 where
+    lists : Lists n t
+    means : meaning t ≡ m
 
-  module _ {n : ℕ} (x : ℕ) (lx : x < p) (ln : n < 32) where
-    pub advanced-bounded : (s : Pair) → PairBounded p n s → PairBounded p (n + 1) (advancedOf p x s)
-    unfolding advancedOf
-    advanced-bounded s b =
-        let two = P .two in
-        record { left = bounded-times-linear (b .left) x (omega arith); right = bounded-times-linear (b .right) x (omega arith) }
+  -- after row k: a pair that stays as it is, one times (u - x), and a combination d s - c t
+  module _ (k : ℕ) (fits : k + 1 < 32) where
+    stays : {t : Pair} → Lists (k + 1) t → Reads (suc k + 1) t (meaning t)
+    stays l = record { lists = record { bounded = pair-mono (l .bounded) (omega arith); left-size = l .left-size; right-size = l .right-size }; means = refl }
 
-    -- each half of a pair under (u - x)
-    advanced-left : (s : Pair) → PairBounded p n s → series p P (advancedOf p x s .a .c) ≡ mulS R (linear R (residue p P x)) (series p P (s .a .c))
-    unfolding advancedOf
-    advanced-left s b = times-linear-means p P x (b .left) ln lx
-
-    advanced-right : (s : Pair) → PairBounded p n s → series p P (advancedOf p x s .b .c) ≡ mulS R (linear R (residue p P x)) (series p P (s .b .c))
-    unfolding advancedOf
-    advanced-right s b = times-linear-means p P x (b .right) ln lx
-
-  module _ {n : ℕ} (d c : ℕ) (lc : c < p) (ln : n ≤ 32) where
-    combined-bounded : (s t : Pair) → PairBounded p n s → PairBounded p n t → PairBounded p n (combinedOf p d s c t)
-    unfolding combinedOf
-    combined-bounded s t bs bt =
+    rises : (x : ℕ) → x < p → {t : Pair} → PairBounded p (k + 1) t → Reads (suc k + 1) (advancedOf p x t) (advanced R (residue p P x) (meaning t))
+    unfolding advancedOf timesLinearOf
+    rises x lx {t} b =
         let two = P .two in
         record {
-          left = bounded-combination (bs .left) (bt .left) d c (omega arith);
-          right = bounded-combination (bs .right) (bt .right) d c (omega arith);
+          lists = record {
+            bounded = pair-mono
+                (record { left = bounded-times-linear (b .left) x (omega arith); right = bounded-times-linear (b .right) x (omega arith) }) (omega arith);
+            left-size = length-tabulate 32 _;
+            right-size = length-tabulate 32 _;
+          };
+          means = same-pair (times-linear-means p P x (b .left) fits lx) (times-linear-means p P x (b .right) fits lx) (add-one (t .e));
         }
 
-    combined-left : (s t : Pair) → PairBounded p n s → PairBounded p n t
-        → series p P (combinedOf p d s c t .a .c) ≡ combine R (residue p P d) (series p P (s .a .c)) (residue p P c) (series p P (t .a .c))
-    unfolding combinedOf combine
-    combined-left s t bs bt = combination-means p P d c (bs .left) (bt .left) ln lc
-
-    combined-right : (s t : Pair) → PairBounded p n s → PairBounded p n t
-        → series p P (combinedOf p d s c t .b .c) ≡ combine R (residue p P d) (series p P (s .b .c)) (residue p P c) (series p P (t .b .c))
-    unfolding combinedOf combine
-    combined-right s t bs bt = combination-means p P d c (bs .right) (bt .right) ln lc
-
-  -- equal parts make equal pairs
-  same-pairs : {a0 a0' b0 b0' a1 a1' b1 b1' : Series R} {e0 e0' e1 e1' : ℕ} → a0 ≡ a0' → b0 ≡ b0' → e0 ≡ e0' → a1 ≡ a1' → b1 ≡ b1' → e1 ≡ e1'
-      → _≡_ {A = SeriesPairs R} (record { a0 = a0; b0 = b0; e0 = e0; a1 = a1; b1 = b1; e1 = e1 })
-      (record { a0 = a0'; b0 = b0'; e0 = e0'; a1 = a1'; b1 = b1'; e1 = e1' })
-  same-pairs h0 h1 h2 h3 h4 h5 = cc
+    combines : (d c : ℕ) → c < p → {s t : Pair} → PairBounded p (k + 1) s → PairBounded p (k + 1) t
+        → Reads (suc k + 1) (combinedOf p d s c t) (combined R (residue p P d) (meaning s) (residue p P c) (meaning t))
+    unfolding combinedOf combinationOf combine
+    combines d c lc bs bt =
+        let two = P .two in
+        record {
+          lists = record {
+            bounded = pair-mono (record {
+              left = bounded-combination (bs .left) (bt .left) d c (omega arith);
+              right = bounded-combination (bs .right) (bt .right) d c (omega arith);
+            }) (omega arith);
+            left-size = length-tabulate 32 _;
+            right-size = length-tabulate 32 _;
+          };
+          means = same-pair (combination-means p P d c (bs .left) (bt .left) (omega arith) lc) (combination-means p P d c (bs .right) (bt .right) (omega arith) lc) refl;
+        }
 
   module _ (A B : ℕ) (points z : List ℕ) (points-below : (k : ℕ) → at points k < p) (z-below : (k : ℕ) → at z k < p) where
     abbrev pub conditionAt : ℕ → Condition (residueRing p P)
@@ -167,15 +155,26 @@ module _ (p : ℕ) (P : IsPrime p) where
 
     -- after k rows
     pub record Means (k : ℕ) (s : Pairs) : Type 0 where
-      pub bounded : PairsBounded p (k + 1) s
-      pub invariant : Invariant (residueRing p P) A B 32 conditionAt k (meaning s)
+      pub one : Lists (k + 1) (s .first)
+      pub two : Lists (k + 1) (s .second)
+      pub invariant : Invariant (residueRing p P) A B 32 conditionAt k (meaning (s .first)) (meaning (s .second))
+
+    reads-means : (k : ℕ) {s t : Pair} {m n : SeriesPair R} → Reads (k + 1) s m → Reads (k + 1) t n → Invariant R A B 32 conditionAt k m n
+        → Means k (record { first = s; second = t })
+    reads-means k {s} {t} {m} S T I = record {
+      one = S .lists;
+      two = T .lists;
+      invariant = subst (λ r. Invariant R A B 32 conditionAt k r (meaning t)) (sym (S .means))
+          (subst (Invariant R A B 32 conditionAt k m) (sym (T .means)) I);
+    }
 
     start-means : Means 0 (startOf A B)
-    unfolding startOf start
-    start-means = record {
-      bounded = reached-start p points z A B (startOf A B) (let two = P .two in omega arith) refl .bounded;
-      invariant = subst (Invariant R A B 32 conditionAt 0) (sym (same-pairs one none refl none one refl)) (start-invariant F A B 32 conditionAt);
-    }
+    unfolding startOf
+    start-means =
+        let b = reached-start p points z A B (startOf A B) (let two = P .two in omega arith) refl .bounded in
+        reads-means 0 (record { lists = record { bounded = b .one; left-size = refl; right-size = refl }; means = same-pair one none refl })
+        (record { lists = record { bounded = b .two; left-size = refl; right-size = refl }; means = same-pair none one refl })
+        (start-invariant F A B 32 conditionAt)
       where
         one : series p P (onePoly .c) ≡ constS R (residue p P 1)
         one = constant-means p P 1 31
@@ -194,116 +193,49 @@ module _ (p : ℕ) (P : IsPrime p) where
       abbrev d1 : ℕ
       d1 = discrepancyOf p x (at z k) (s .second)
 
-      abbrev next : Pairs → Type 0
-      next r = Means (suc k) r
+      means : (t : Pair) → PairBounded p (k + 1) t → residue p P (discrepancyOf p x (at z k) t) ≡ discrepancy R 32 (conditionAt k) (meaning t)
+      means t b = discrepancy-means x (at z k) t (z-below k) b (omega arith)
 
-      means0 : residue p P d0 ≡ discrepancy R 32 (conditionAt k) (series p P (s .first .a .c)) (series p P (s .first .b .c))
-      means0 = discrepancy-means x (at z k) (s .first) (z-below k) (M .bounded .one) (omega arith)
-
-      means1 : residue p P d1 ≡ discrepancy R 32 (conditionAt k) (series p P (s .second .a .c)) (series p P (s .second .b .c))
-      means1 = discrepancy-means x (at z k) (s .second) (z-below k) (M .bounded .two) (omega arith)
-
-      small0 : d0 < p
+      small : (t : Pair) → discrepancyOf p x (at z k) t < p
       unfolding discrepancyOf
-      small0 = mod-lt _ (let two = P .two in omega arith)
+      small t = mod-lt _ (let two = P .two in omega arith)
 
-      small1 : d1 < p
-      unfolding discrepancyOf
-      small1 = mod-lt _ (let two = P .two in omega arith)
+      null : (t : Pair) → PairBounded p (k + 1) t → discrepancyOf p x (at z k) t ≡ 0 → discrepancy R 32 (conditionAt k) (meaning t) ≡ residue p P 0
+      null t b e = sym (means t b) ∙ ap (residue p P) e
 
-      null : (d : ℕ) (D : Residue p P) → residue p P d ≡ D → d ≡ 0 → D ≡ residue p P 0
-      null d D e z = sym e ∙ ap (residue p P) z
+      nonnull : (t : Pair) → (discrepancyOf p x (at z k) t ≡ 0 → ⊥) → residue p P (discrepancyOf p x (at z k) t) ≢ residue p P 0
+      nonnull t n e = n (residue-zero p P _ (small t) e)
 
-      nonnull : (d : ℕ) (D : Residue p P) → d < p → residue p P d ≡ D → (d ≡ 0 → ⊥) → D ≢ residue p P 0
-      nonnull d D l e n z = n (residue-zero p P d l (e ∙ z))
-
-      keep : d0 ≡ 0 → d1 ≡ 0 → next s
-      keep z0 z1 = record {
-        bounded = record { one = pair-mono (M .bounded .one) (omega arith); two = pair-mono (M .bounded .two) (omega arith) };
-        invariant = keep-both F A B 32 (M .invariant) (null d0 _ means0 z0) (null d1 _ means1 z1);
-      }
-
-      -- a pair that stays, and one that is raised
-      stays : {t : Pair} → PairBounded p (k + 1) t → PairBounded p (suc k + 1) t
-      stays h = pair-mono h (omega arith)
-
-      rises : (t : Pair) → PairBounded p (k + 1) t → PairBounded p (suc k + 1) (advancedOf p x t)
-      rises t h = pair-mono (advanced-bounded x (points-below k) fits t h) (omega arith)
-
-      b0 : PairBounded p (k + 1) (s .first)
-      b0 = M .bounded .one
-
-      b1 : PairBounded p (k + 1) (s .second)
-      b1 = M .bounded .two
-
-      lx : x < p
-      lx = points-below k
-
-      first : d1 ≡ 0 → next (record { first = advancedOf p x (s .first); second = s .second })
-      unfolding advanceFirst
-      first z1 = record {
-        bounded = record { one = rises (s .first) b0; two = stays b1 };
-        invariant = subst (Invariant R A B 32 conditionAt (suc k))
-            (sym (same-pairs (advanced-left x lx fits (s .first) b0) (advanced-right x lx fits (s .first) b0)
-            (advanced-number x (s .first)) refl refl refl))
-            (advance-first F A B 32 (omega arith) (M .invariant) (null d1 _ means1 z1));
-      }
-
-      second : d0 ≡ 0 → next (record { first = s .first; second = advancedOf p x (s .second) })
-      unfolding advanceSecond
-      second z0 = record {
-        bounded = record { one = stays b0; two = rises (s .second) b1 };
-        invariant = subst (Invariant R A B 32 conditionAt (suc k))
-            (sym (same-pairs refl refl refl (advanced-left x lx fits (s .second) b1) (advanced-right x lx fits (s .second) b1)
-            (advanced-number x (s .second))))
-            (advance-second F A B 32 (omega arith) (M .invariant) (null d0 _ means0 z0));
-      }
-
-      clear-second : (d0 ≡ 0 → ⊥) → s .first .e ≤ s .second .e
-          → next (record { first = advancedOf p x (s .first); second = combinedOf p d0 (s .second) d1 (s .first) })
-      unfolding combineSecond
-      clear-second n0 le = record {
-        bounded = record { one = rises (s .first) b0; two = stays (combined-bounded d0 d1 small1 (omega arith) (s .second) (s .first) b1 b0) };
-        invariant = subst (Invariant R A B 32 conditionAt (suc k))
-            (sym (same-pairs (advanced-left x lx fits (s .first) b0) (advanced-right x lx fits (s .first) b0)
-            (advanced-number x (s .first))
-            (combined-left d0 d1 small1 (omega arith) (s .second) (s .first) b1 b0 ∙ by-means (series p P (s .second .a .c)) (series p P (s .first .a .c)))
-            (combined-right d0 d1 small1 (omega arith) (s .second) (s .first) b1 b0 ∙ by-means (series p P (s .second .b .c)) (series p P (s .first .b .c)))
-            (combined-number d0 (s .second) d1 (s .first))))
-            (combine-second F A B 32 (omega arith) (M .invariant) (nonnull d0 _ small0 means0 n0) le);
-      }
-        where
-          by-means : (f g : Series R) → combine R (residue p P d0) f (residue p P d1) g
-              ≡ combine R (discrepancy R 32 (conditionAt k) (meaning s .a0) (meaning s .b0)) f (discrepancy R 32 (conditionAt k) (meaning s .a1) (meaning s .b1)) g
-          by-means f g = ap₂ (λ (u v : Residue p P). combine R u f v g) means0 means1
-
-      clear-first : (d1 ≡ 0 → ⊥) → s .second .e < s .first .e
-          → next (record { first = combinedOf p d1 (s .first) d0 (s .second); second = advancedOf p x (s .second) })
-      unfolding combineFirst
-      clear-first n1 lt = record {
-        bounded = record { one = stays (combined-bounded d1 d0 small0 (omega arith) (s .first) (s .second) b0 b1); two = rises (s .second) b1 };
-        invariant = subst (Invariant R A B 32 conditionAt (suc k))
-            (sym (same-pairs
-            (combined-left d1 d0 small0 (omega arith) (s .first) (s .second) b0 b1 ∙ by-means (series p P (s .first .a .c)) (series p P (s .second .a .c)))
-            (combined-right d1 d0 small0 (omega arith) (s .first) (s .second) b0 b1 ∙ by-means (series p P (s .first .b .c)) (series p P (s .second .b .c)))
-            (combined-number d1 (s .first) d0 (s .second))
-            (advanced-left x lx fits (s .second) b1) (advanced-right x lx fits (s .second) b1) (advanced-number x (s .second))))
-            (combine-first F A B 32 (omega arith) (M .invariant) (nonnull d1 _ small1 means1 n1) lt);
-      }
-        where
-          by-means : (f g : Series R) → combine R (residue p P d1) f (residue p P d0) g
-              ≡ combine R (discrepancy R 32 (conditionAt k) (meaning s .a1) (meaning s .b1)) f (discrepancy R 32 (conditionAt k) (meaning s .a0) (meaning s .b0)) g
-          by-means f g = ap₂ (λ (u v : Residue p P). combine R u f v g) means1 means0
-
-      step-means : next (pairsStep p x (at z k) s)
+      step-means : Means (suc k) (pairsStep p x (at z k) s)
       step-means = by (ℕ-discrete d0 0) (ℕ-discrete d1 0) (decLe (s .first .e) (s .second .e))
         where
-          by : Dec (d0 ≡ 0) → Dec (d1 ≡ 0) → Dec (s .first .e ≤ s .second .e) → next (pairsStep p x (at z k) s)
-          by (yes z0) (yes z1) c = subst next (step-both p x d0 d1 s z0 z1) (keep z0 z1)
-          by (yes z0) (no n1) c = subst next (step-second p x d0 d1 s _ z0 n1 refl) (second z0)
-          by (no n0) (yes z1) c = subst next (step-first p x d0 d1 s _ n0 z1 refl) (first z1)
-          by (no n0) (no n1) (yes le) = subst next (step-clear-second p x d0 d1 s _ _ n0 n1 le refl refl) (clear-second n0 le)
-          by (no n0) (no n1) (no gt) = subst next (step-clear-first p x d0 d1 s _ _ n0 n1 (omega arith) refl refl) (clear-first n1 (omega arith))
+          b0 : PairBounded p (k + 1) (s .first)
+          b0 = M .one .bounded
+
+          b1 : PairBounded p (k + 1) (s .second)
+          b1 = M .two .bounded
+
+          risen : {t : Pair} → PairBounded p (k + 1) t → Reads (suc k + 1) (advancedOf p x t) (advanced R (residue p P x) (meaning t))
+          risen b = rises k fits x (points-below k) b
+
+          by : Dec (d0 ≡ 0) → Dec (d1 ≡ 0) → Dec (s .first .e ≤ s .second .e) → Means (suc k) (pairsStep p x (at z k) s)
+          by (yes z0) (yes z1) c =
+              subst (Means (suc k)) (step-both p x d0 d1 s z0 z1)
+              (reads-means (suc k) (stays k fits (M .one)) (stays k fits (M .two)) (keep-both F A B 32 (M .invariant) (null (s .first) b0 z0) (null (s .second) b1 z1)))
+          by (yes z0) (no n1) c =
+              subst (Means (suc k)) (step-second p x d0 d1 s _ z0 n1 refl)
+              (reads-means (suc k) (stays k fits (M .one)) (risen b1) (advance-second F A B 32 (M .invariant) (omega arith) (null (s .first) b0 z0)))
+          by (no n0) (yes z1) c =
+              subst (Means (suc k)) (step-first p x d0 d1 s _ n0 z1 refl)
+              (reads-means (suc k) (risen b0) (stays k fits (M .two)) (advance-first F A B 32 (M .invariant) (omega arith) (null (s .second) b1 z1)))
+          by (no n0) (no n1) (yes le) =
+              subst (Means (suc k)) (step-clear-second p x d0 d1 s _ _ n0 n1 le refl refl)
+              (reads-means (suc k) (risen b0) (combines k fits d0 d1 (small (s .second)) b1 b0)
+              (combine-second F A B 32 (M .invariant) (omega arith) _ _ (means (s .first) b0) (means (s .second) b1) (nonnull (s .first) n0) le))
+          by (no n0) (no n1) (no gt) =
+              subst (Means (suc k)) (step-clear-first p x d0 d1 s _ _ n0 n1 (omega arith) refl refl)
+              (reads-means (suc k) (combines k fits d1 d0 (small (s .first)) b0 b1) (risen b1)
+              (combine-first F A B 32 (M .invariant) (omega arith) _ _ (means (s .first) b0) (means (s .second) b1) (nonnull (s .second) n1) (omega arith)))
 
     -- after each row
     pub pairs-mean : (k : ℕ) → k ≤ 31 → Means k (pairsAfter p points z A B k)
@@ -313,7 +245,7 @@ module _ (p : ℕ) (P : IsPrime p) where
 
     -- after as many rows as there are coefficients less one, the smaller pair solves the conditions
     pub solution-means : (k : ℕ) → k ≤ 31 → k ≡ A + B + 1
-        → PairBounded p (k + 1) (solutionOf p points z A B k)
+        → Lists (k + 1) (solutionOf p points z A B k)
         × Solves (residueRing p P) A B 32 conditionAt k (series p P (solutionOf p points z A B k .a .c)) (series p P (solutionOf p points z A B k .b .c))
     solution-means k l e = by (decLe (s .first .e) (s .second .e))
       where
@@ -324,8 +256,8 @@ module _ (p : ℕ) (P : IsPrime p) where
         M = pairs-mean k l
 
         Good : Pair → Type 0
-        Good t = PairBounded p (k + 1) t × Solves R A B 32 conditionAt k (series p P (t .a .c)) (series p P (t .b .c))
+        Good t = Lists (k + 1) t × Solves R A B 32 conditionAt k (series p P (t .a .c)) (series p P (t .b .c))
 
         by : Dec (s .first .e ≤ s .second .e) → Good (smallerOf s)
-        by (yes le) = subst Good (smaller-first {s = s} refl le) (M .bounded .one, first-solves F A B 32 (M .invariant) e le)
-        by (no gt) = subst Good (smaller-second {s = s} refl (omega arith)) (M .bounded .two, second-solves F A B 32 (M .invariant) e (omega arith))
+        by (yes le) = subst Good (smaller-first {s = s} refl le) (M .one, first-solves R (M .invariant) e le)
+        by (no gt) = subst Good (smaller-second {s = s} refl (omega arith)) (M .two, second-solves R (M .invariant) e (omega arith))

@@ -20,15 +20,14 @@ use Rattle.poly.proofs.Lists.{at-tabulate}
 use Rattle.poly_meaning.proofs.Series.{residue-mod, value-means-bounded}
 use Rattle.poly_meaning.proofs.Degrees.{length-means-null}
 use Rattle.pairs.specs.declared.Pair.{Pair}
-use Rattle.pairs.specs.Pairs.{PairBounded, solutionOf}
-use Rattle.division.proofs.Leading.{Stored}
+use Rattle.pairs.specs.Pairs.{solutionOf}
+use Rattle.division.proofs.Leading.{Stored, bounded-stored}
 use Rattle.column.specs.Columns.{columnOf}
 use Rattle.format.proofs.Sizes.{denominator-low}
 use Rattle.column.proofs.Columns.{column-is, bounded-column}
 use Rattle.vector.specs.declared.Candidate.{Candidate}
 use Rattle.candidate.specs.Candidates.{withFraction, slackOf, nextOf, candidateAfter}
-use Rattle.soundness.proofs.Interpolation.{solution-means}
-use Rattle.soundness.proofs.Sizes.{whole-solution}
+use Rattle.soundness.proofs.Interpolation.{condition, Lists, solution-means}
 use Rattle.soundness.proofs.Fraction.{fraction-means}
 use Rattle.problem_meaning.proofs.Tables.{P, R, F, poly, evaluation, problem, Usable, ample, capacity}
 use Rattle.soundness.proofs.Candidates.{Good, Verdict, no-answer, start-verdict, extended-verdict}
@@ -67,26 +66,24 @@ module _ (b : Bounds) (points values : List ℕ) (U : Usable b points) where
     enough : b .rows ≡ (b .rows - 1 - slackOf b) + slackOf b + 1
     enough = let e = U .sized .enough 0 in omega arith
 
-    bounded : PairBounded p (b .rows + 1) s
-    bounded = solution-means p (P b) (b .rows - 1 - slackOf b) (slackOf b) points z (U .points-below) z-below (b .rows) (U .sized .rows) enough .0
+    solution : Lists p (P b) (b .rows + 1) s
+        × Solves (R b) (b .rows - 1 - slackOf b) (slackOf b) 32 (λ l. condition p (P b) (at points l) (at z l)) (b .rows) (poly b (s .a .c)) (poly b (s .b .c))
+    solution = solution-means p (P b) (b .rows - 1 - slackOf b) (slackOf b) points z (U .points-below) z-below (b .rows) (U .sized .rows) enough
 
-    solves : Solves (R b) (ample b points values U .A) (slackOf b) 32 (conditions (F b) 32 (poly b (c .g .c)) i (evaluation b points values)) (b .rows)
+    solves : Solves (R b) (b .rows - 1 - slackOf b) (slackOf b) 32 (conditions (F b) 32 (poly b (c .g .c)) i (evaluation b points values)) (b .rows)
         (poly b (s .a .c)) (poly b (s .b .c))
-    unfolding ample
-    solves =
-        let S = solution-means p (P b) (b .rows - 1 - slackOf b) (slackOf b) points z (U .points-below) z-below (b .rows) (U .sized .rows) enough .1 in
-        record {
-          phi-below = S .phi-below;
-          psi-below = S .psi-below;
-          meets = λ l h. S .meets l h ∙ ap (λ t. R b .mul t (value (R b) 32 (poly b (s .b .c)) (residue p (P b) (at points l)))) (z-means l h);
-          not-both-null = S .not-both-null;
-        }
+    solves = record {
+      phi-below = solution .1 .phi-below;
+      psi-below = solution .1 .psi-below;
+      meets = λ l h. solution .1 .meets l h ∙ ap (λ t. R b .mul t (value (R b) 32 (poly b (s .b .c)) (residue p (P b) (at points l)))) (z-means l h);
+      not-both-null = solution .1 .not-both-null;
+    }
 
     stored-left : Stored p (s .a .c)
-    stored-left = record { size = whole-solution p points z _ _ (b .rows) .left; residues = bounded .left .residues }
+    stored-left = bounded-stored (solution .0 .bounded .left) (solution .0 .left-size)
 
     stored-right : Stored p (s .b .c)
-    stored-right = record { size = whole-solution p points z _ _ (b .rows) .right; residues = bounded .right .residues }
+    stored-right = bounded-stored (solution .0 .bounded .right) (solution .0 .right-size)
 
     module _ (li : i < b .outputs) (sc : c .solvable ≡ true) where
       fraction-verdict : Dec (lengthOf (s .b .c) ≡ 0) → Verdict b points values U (suc i) (withFraction b i s c)
@@ -95,7 +92,7 @@ module _ (b : Bounds) (points values : List ℕ) (U : Usable b points) where
           rw (eq-eqb _ _ null)
           (no-answer b points values U (suc i)
           (none-if-psi-null (F b) 32 (problem b points values) (ample b points values U) (capacity b points values U) li (G .candidate) solves
-          (length-means-null p (P b) (bounded .right) null)))
+          (length-means-null p (P b) (solution .0 .bounded .right) null)))
       fraction-verdict (no nonzero) =
           let M = fraction-means p (P b) stored-left stored-right nonzero in
           rw (ne-eqb _ _ nonzero)
