@@ -11,7 +11,7 @@ use Rattle.row_search.specs.declared.Found.the-variants.{At, Nothing}
 use Rattle.row_search.specs.Search.{firstBelow, anyBelow, isFound, orElse}
 use Rattle.row_search.proofs.FirstBelow.{none-below}
 use Rattle.word.specs.Word.{flagOf, countBelow}
-use Rattle.recovery_laws.proofs.SameFractions.{count-same}
+use Rattle.problem.proofs.Same.{count-same}
 
 not-true : (t : Bool) → (t ≡ true → ⊥) → t ≡ false
 not-true true n = absurd (n refl)
