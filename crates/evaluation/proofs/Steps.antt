@@ -13,9 +13,11 @@ use Rattle.field.specs.declared.Prime.{Prime}
 use Rattle.field.specs.Primes.{modulusOf}
 use Rattle.field.proofs.Moduli.{modulus-positive, residue-below}
 use Rattle.montgomery.specs.Factors.{formOf}
-use Rattle.poly.specs.Coefficients.{at, tabulate}
+use Rattle.lists.specs.Tabulated.{tabulate}
+use Rattle.poly.specs.Coefficients.{at}
 use Rattle.poly.specs.Operations.{valueOf}
-use Rattle.poly.proofs.Lists.{at-tabulate, at-past, at-zeros, is-tabulate, length-tabulate, bounded-tabulate}
+use Rattle.lists.proofs.Tabulated.{at-tabulate, at-past, at-zeros, is-tabulate, length-tabulate}
+use Rattle.poly.proofs.Lists.{bounded-tabulate}
 use Rattle.poly.proofs.Values.{value-more, value-start}
 use Rattle.lanes.specs.Lanes.{groupsOf, modulusAt, Constants, Inverses, replaced, hornerLane}
 use Rattle.lanes.proofs.Changes.{replaced-inside, replaced-behind, length-replaced}

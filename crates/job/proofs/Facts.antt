@@ -22,7 +22,7 @@ use Rattle.row_search.specs.declared.Found.{Found}
 use Rattle.row_search.specs.declared.Found.the-variants.{At, Nothing}
 use Rattle.row_search.specs.Search.{firstBelow, ifHolds, isFound}
 use Rattle.rows.specs.Rows.{jobPoint, jobValue}
-use Rattle.rows.proofs.Order.{lt-or-ge}
+use Rattle.lists.proofs.Order.{lt-or-ge}
 use Rattle.row_search.proofs.FirstBelow.{at-not-nothing, none-passes, any-passes, none-below}
 use Rattle.job.proofs.Deciding.{past-4, accepted}
 use Rattle.job.specs.Refusals.{

@@ -3,7 +3,6 @@ use mathlib.Core.Path.{_≡_, ap, ap₂, _∙_}
 use mathlib.Core.List.{List}
 use Prim.Native.Nat.{ℕ, _+_, _-_, _*_, _/_, _%_, _≤_, _<_}
 use native.Mathlib.Nat.{mod-lt}
-use native.Mathlib.Decide.{decLt}
 use native.Mathlib.Omega.{arith}
 use lib.ListN.{length}
 use Rattle.field.specs.declared.Prime.{Prime}
@@ -14,7 +13,8 @@ use Rattle.montgomery.specs.Factors.{formOf, factorOf}
 use Rattle.poly.specs.Coefficients.{at}
 use Rattle.poly.specs.Operations.{timesLinearAt, timesLinearOf, combinationAt, combinationOf}
 use Rattle.poly.proofs.Bounds.{times-linear-past, bounded-times-linear, combination-past, bounded-combination}
-use Rattle.poly.proofs.Lists.{bounded-mono, length-tabulate, Filled}
+use Rattle.lists.proofs.Tabulated.{length-tabulate}
+use Rattle.poly.proofs.Lists.{bounded-mono}
 use Rattle.pairs.specs.Pairs.{PairBounded}
 use Rattle.lanes.specs.Lanes.{groupsOf, modulusAt, Constants, Inverses, Residues, replaced, combinedLane, linearLane, differenceLane}
 use Rattle.lanes.proofs.Changes.{replaced-inside}
@@ -36,14 +36,6 @@ side-is e n ex ey = ap₂ (λ (x y : ℕ). record { e = e; n = n; coefficients =
 -- coefficients have 16 bits
 pub narrow-held : (q : Prime) {n : ℕ} {a : List ℕ} → Holds (modulusOf q) n a → (k : ℕ) → at a k < 65536
 narrow-held q h k = let l = h .bounded .residues k in let s = modulus-small q in omega arith
-
--- an array that is filled with residues
-pub filled-narrow : {p k : ℕ} {f : ℕ → ℕ} {r : List ℕ} → 0 < p → Filled f k r → ((j : ℕ) → f j < p) → Narrow p r
-filled-narrow {p} {k} {f} {r} h d low = record { size = d .size; below = λ j. go j (decLt j k) }
-  where
-    go : (j : ℕ) → Dec (j < k) → at r j < p
-    go j (yes l) = rw (d .done j l) (low j)
-    go j (no l) = let z = d .rest j (omega arith) in omega arith
 
 pub bounded-held : {p n : ℕ} {a b : List ℕ} (e : ℕ) → PairHeld p n a b → PairBounded p n (pairOf a b e)
 bounded-held e h = record { left = h .left .bounded; right = h .right .bounded }

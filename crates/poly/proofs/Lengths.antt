@@ -8,7 +8,7 @@ use borrow.Author.Tests.{eq-eqb, ne-eqb}
 use lib.ListN.{length}
 use Rattle.poly.specs.Coefficients.{at, Bounded}
 use Rattle.poly.specs.Operations.{lengthBelow, lengthOf}
-use Rattle.poly.proofs.Lists.{at-past}
+use Rattle.lists.proofs.Tabulated.{at-past}
 
 -- where the topmost of the first n + 1 coefficients is 0, and where it is not
 pub length-lower : (a : List ℕ) (n : ℕ) → at a n ≡ 0 → lengthBelow a (suc n) ≡ lengthBelow a n

@@ -12,9 +12,10 @@ use Rattle.algebra.proofs.Bounds.{Below}
 use Rattle.algebra.proofs.Value.{value, value-stable, linear, linear-mul-zero, linear-mul-suc}
 use Rattle.field.proofs.Primality.{IsPrime}
 use Rattle.reciprocal.proofs.PrimeField.{Residue, residue, residue-equal, equal-residue, addR, mulR, negR, residue-add, residue-mul, residue-neg, residueRing}
-use Rattle.poly.specs.Coefficients.{at, tabulate, Bounded}
+use Rattle.lists.specs.Tabulated.{tabulate}
+use Rattle.poly.specs.Coefficients.{at, Bounded}
 use Rattle.poly.specs.Operations.{valueOf, combinationAt, combinationOf, timesLinearAt, timesLinearOf, scaledAt, scaledOf}
-use Rattle.poly.proofs.Lists.{at-tabulate-all, at-past, at-zeros}
+use Rattle.lists.proofs.Tabulated.{at-tabulate-all, at-past, at-zeros}
 use Rattle.poly.proofs.Bounds.{combination-past, times-linear-past, scaled-past}
 
 module _ (p : ℕ) (P : IsPrime p) where

@@ -9,7 +9,8 @@ use native.Mathlib.Omega.{arith}
 use lib.ListN.{length}
 use Rattle.poly.specs.Coefficients.{at, Bounded}
 use Rattle.poly.specs.Operations.{sumBelow, productAt, productOf}
-use Rattle.poly.proofs.Lists.{is-tabulate, bounded-tabulate}
+use Rattle.lists.proofs.Tabulated.{is-tabulate}
+use Rattle.poly.proofs.Lists.{bounded-tabulate}
 use Rattle.poly.proofs.Bounds.{zero-remainder}
 
 -- sums

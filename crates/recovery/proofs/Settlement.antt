@@ -12,7 +12,7 @@ use borrow.Author.Tests.{le-ltb}
 use Rattle.method.proofs.Problem.{None}
 use Rattle.method.proofs.Decision.{candidate-is-answer, none-if-many-wrong}
 use Rattle.poly.specs.Coefficients.{at}
-use Rattle.poly.proofs.Lists.{at-past, at-tabulate, length-tabulate}
+use Rattle.lists.proofs.Tabulated.{at-past, at-tabulate, length-tabulate}
 use Rattle.header.specs.Header.{boundsOf}
 use Rattle.rows.specs.Rows.{jobPoint, jobPoints, jobValues}
 use Rattle.rows.proofs.Entries.{points-at}

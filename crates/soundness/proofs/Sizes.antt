@@ -6,7 +6,7 @@ use Prim.Native.Nat.{ℕ, zero, suc}
 use lib.Dec.{eqb, leb}
 use lib.ListN.{length, getD}
 use Rattle.poly.specs.Operations.{timesLinearOf, combinationOf}
-use Rattle.poly.proofs.Lists.{length-tabulate}
+use Rattle.lists.proofs.Tabulated.{length-tabulate}
 use Rattle.pairs.specs.declared.Pair.{Pair}
 use Rattle.pairs.specs.Pairs.{Pairs, advancedOf, combinedOf, stepBy, startOf, pairsAfter, smallerOf, solutionOf}
 

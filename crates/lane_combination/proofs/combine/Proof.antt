@@ -1,8 +1,8 @@
 use mathlib.Core.Path.{refl}
-use Prim.Native.Nat.{_-_, _≤_, _<_}
+use Prim.Native.Nat.{_-_, _<_}
 use Rattle.poly.specs.Coefficients.{at}
 use Rattle.lanes.specs.Lanes.{combinedLane}
-use Rattle.lanes.proofs.Changes.{Changed, changed-none, changed-more, changed-all, splat, below-lane, splat-below, reduced-below, combined-is}
+use Rattle.lanes.proofs.Changes.{Changing, changing-start, changing-same, changing-next, changing-end, splat, below-lane, splat-below, next-below, reduced-below, combined-is}
 use borrow.Author.Needs.{needs}
 use native.Mathlib.Omega.{arith}
 use Rattle.lane_combination.proofs.combine.Statement.{statement}
@@ -10,14 +10,13 @@ use Rattle.lane_combination.proofs.combine.Tie as tie
 
 abbrev Inv-loop : tie.InvT-loop
 Inv-loop ps from n a₀ b ds dl cs cl start end k₀ a k =
-    (start ≤ k) × (k ≤ end)
-    × Changed (combinedLane ps (record { form = at ds 0; low = at dl 0 }) a₀ (record { form = at cs 0; low = at cl 0 }) b) start k a₀ a
+    Changing start end (combinedLane ps (record { form = at ds 0; low = at dl 0 }) a₀ (record { form = at cs 0; low = at cl 0 }) b) a₀ k a
 
 abbrev μ-loop : tie.MeasureT-loop
 μ-loop ps from n a₀ b ds dl cs cl start end k₀ a k = end - k
 
 loop-holds : tie.Need-loop-holds Inv-loop μ-loop
-loop-holds c = (omega arith, omega arith, changed-none _ _ _ (c .pre .3 .size))
+loop-holds c = changing-start _ _ _ _ (omega arith) (c .pre .3 .size)
 
 product-requires : tie.Need-product-requires Inv-loop μ-loop
 product-requires c κs =
@@ -26,7 +25,7 @@ product-requires c κs =
     let k = L .loop .k in
     let l : k < 32 = omega arith in
     let m = S .pre .2 in
-    (splat-below m k l (S .pre .5), rw (L .loop .inv .2 .rest k (omega arith)) (below-lane m k l (S .pre .3 .below k)))
+    (splat-below m k l (S .pre .5), next-below m k l (S .pre .3) (L .loop .inv))
 
 product-requires-2 : tie.Need-product-requires-2 Inv-loop μ-loop
 product-requires-2 c κs =
@@ -54,14 +53,12 @@ loop-again c =
     let S = L .before in
     let k = L .loop .k in
     let l : k < 32 = omega arith in
-    let inv = L .loop .inv in
-    let same = inv .2 .rest k (omega arith) in
-    let value = combined-is (S .args .ps .now) (S .args .a .now) k _ _ (S .args .b .now) (splat _ k l) (splat _ k l) (splat _ k l) (splat _ k l) same
+    let value = combined-is (S .args .ps .now) (S .args .a .now) k _ _ (S .args .b .now) (splat _ k l) (splat _ k l) (splat _ k l) (splat _ k l) (changing-same (L .loop .inv))
     (c .before .before .before .product .ensures) (c .before .product2 .ensures) (c .difference .ensures) in
-    (omega arith, omega arith, changed-more (inv .2) (c .difference .result) (inv .0) l value)
+    changing-next (L .loop .inv) (c .difference .result) (omega arith) (omega arith) value
 
 returns : tie.Need-returns Inv-loop μ-loop
-returns c = (refl, changed-all (c .before .loop .inv .2) (omega arith))
+returns c = (refl, changing-end (c .before .loop .inv) (omega arith))
 
 pub combine-spec : {M : Type 1} → statement M
 combine-spec =
