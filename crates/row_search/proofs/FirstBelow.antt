@@ -1,17 +1,18 @@
 -- Laws of the first number below a bound that passes a test.
-use mathlib.Core.Bool.{Bool, true, false, true≢false}
+use mathlib.Core.Bool.{Bool, true, false}
 use mathlib.Core.Logic.{⊎-elim}
 use mathlib.Core.Path.{_≡_, refl, sym, ap, ap₂, subst}
 use Prim.Native.Nat.{ℕ, zero, suc, _+_, _<_}
 use native.Mathlib.Nat.{not-suc-le-zero, le-of-suc-le-suc, eq-or-lt-of-le}
 use native.Mathlib.Numerals.{add-one}
 use native.Mathlib.Omega.{arith}
+use Rattle.lists.proofs.Truth.{clash}
 use Rattle.row_search.specs.declared.Found.{Found}
 use Rattle.row_search.specs.declared.Found.the-variants.{At, Nothing}
 use Rattle.row_search.specs.Search.{firstBelow, anyBelow, orElse, ifHolds, isFound}
 
 pub at-not-nothing : {i : ℕ} → At i ≡ Nothing → ⊥
-at-not-nothing {i} e = let z : _≡_ {A = ℕ} 0 1 = cc in omega arith
+at-not-nothing e = clash (cc)
 
 nothing-both : (f : Found) (b : Bool) (n : ℕ) → orElse f (ifHolds b n) ≡ Nothing → (f ≡ Nothing) × (b ≡ false)
 nothing-both (At i) b n e = absurd (at-not-nothing e)
@@ -19,7 +20,7 @@ nothing-both Nothing true n e = absurd (at-not-nothing e)
 nothing-both Nothing false n e = (refl, refl)
 
 not-found : (f : Found) → isFound f ≡ false → f ≡ Nothing
-not-found (At i) e = absurd (true≢false e)
+not-found (At i) e = clash e
 not-found Nothing e = refl
 
 module _ (test : ℕ → Bool) where
