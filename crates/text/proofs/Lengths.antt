@@ -1,4 +1,4 @@
--- A text has fewer than 1280 bytes.
+-- A text fits its draft.
 use Prim.Native.Nat.{ℕ, zero, suc, _+_, _*_, _^_, _≤_, _<_}
 use mathlib.Core.Bool.{Bool, true, false, cond}
 use mathlib.Core.List.{List, _++_}
@@ -9,6 +9,7 @@ use Rattle.format.specs.declared.Bounds.{Bounds}
 use Rattle.format.specs.Bounds.{Storable, numeratorBoundOf}
 use Rattle.answer.specs.Bytes.{numeratorStart}
 use Rattle.word.specs.Word.{marked}
+use Rattle.text.specs.Drafts.{textRoom}
 use Rattle.text.specs.Decimal.{decimalOf, itemOf}
 use Rattle.text.specs.Lines.{lineFeed, outputLabel, rowItems, coefficientFrom, degreeWithin, itemsBelow, coefficientsLine, outputLineFrom, outputLines}
 use Rattle.text.specs.Text.{recoveredLabel, wrongLabel, denominatorLabel, refusedLabel, recoveredText, refusedText}
@@ -67,7 +68,7 @@ module _ (s : List ℕ) (bytes : (k : ℕ) → getD s k 0 < 256) where
         output-line i start bound (omega arith) (omega (arith, fits .numerators-low i)),
       )
 
-  pub recovered-short : (b : Bounds) → Storable b → (wrong : ℕ) → wrong < 2 ^ 32 → length (recoveredText b wrong s) < 1280
+  pub recovered-short : (b : Bounds) → Storable b → (wrong : ℕ) → wrong < 2 ^ 32 → length (recoveredText b wrong s) < textRoom
   recovered-short b fits wrong low =
       let rows = rowItems 32 0 (marked (wordFrom s)) in
       let line = coefficientsLine (coefficientFrom s 4) (b .dg) in
@@ -89,7 +90,7 @@ module _ (s : List ℕ) (bytes : (k : ℕ) → getD s k 0 < 256) where
         fits .few,
       )
 
-pub refused-short : (number row : ℕ) → number < 2 ^ 32 → row < 2 ^ 32 → length (refusedText number row) < 1280
+pub refused-short : (number row : ℕ) → number < 2 ^ 32 → row < 2 ^ 32 → length (refusedText number row) < textRoom
 refused-short number row low-number low-row =
     let one = joined refusedLabel (decimalOf number) 8 10 (omega arith) (decimal-few number 9 (omega arith)) in
     let item : length (itemOf row) ≤ 11 = omega (arith, decimal-few row 9 (omega arith)) in

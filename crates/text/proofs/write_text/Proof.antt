@@ -36,8 +36,9 @@ returns-3 c =
     let passed = made .before in
     let g = passed .before .before .before .before .args in
     let text = made .text-of .ensures in
-    let told = told-bytes (g .bounds) (g .outcome) (g .area .now) (g .buffer .now) (good passed) (made .text-of .result .count) (text .1) (omega arith) in
-    (told .0, c .before .before .copy-out .ensures ∙ ap (λ l. overwritten l (g .buffer .now)) (text .0) ∙ told .1, λ e. omega arith)
+    let copied = c .before .before .copy-out .ensures in
+    let told = told-bytes (g .bounds) (g .outcome) (g .area .now) (g .buffer .now) (good passed) (c .before .before .copy-out .result) (copied .0 ∙ text .1) (omega arith) in
+    (told .0, copied .1 ∙ ap (λ l. overwritten l (g .buffer .now)) (text .0) ∙ told .1, λ e. omega arith)
 
 pub write-text-spec : {M : Type 1} → statement M
 write-text-spec =

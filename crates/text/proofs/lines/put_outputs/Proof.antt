@@ -3,7 +3,7 @@ use mathlib.Core.Path.{_≡_, refl, sym, ap, ap₂, _∙_}
 use lib.ListN.{length}
 use Rattle.format.specs.Bounds.{numeratorBoundOf}
 use Rattle.answer.specs.Bytes.{numeratorStart}
-use Rattle.text.specs.Drafts.{held, extended}
+use Rattle.text.specs.Drafts.{textRoom, held, extended}
 use Rattle.text.specs.Lines.{outputLineFrom, outputLines}
 use Rattle.text.proofs.Puts.{put-nothing, put-both}
 use Rattle.text.proofs.Polynomials.{next-start, next-line}
@@ -23,7 +23,7 @@ loop-holds : tie.Need-loop-holds Inv-loop μ-loop
 unfolding numeratorStart outputLines
 loop-holds c =
     let g = c .before .before in
-    let whole : length (g .args .draft .bytes) ≡ 1280 = search needs in
+    let whole : length (g .args .draft .bytes) ≡ textRoom = search needs in
     (omega arith, refl, omega (arith, g .pre .denominator-low), put-nothing (g .args .draft .bytes) whole (g .args .draft .count))
 
 put-output-requires : tie.Need-put-output-requires Inv-loop μ-loop
