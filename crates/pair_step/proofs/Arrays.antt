@@ -16,7 +16,7 @@ use Rattle.poly.proofs.Bounds.{times-linear-past, bounded-times-linear, combina
 use Rattle.lists.proofs.Tabulated.{length-tabulate}
 use Rattle.poly.proofs.Lists.{bounded-mono}
 use Rattle.pairs.specs.Pairs.{PairBounded}
-use Rattle.lanes.specs.Lanes.{groupsOf, modulusAt, Constants, Inverses, Residues, replaced, combinedLane, linearLane, differenceLane}
+use Rattle.lanes.specs.Lanes.{groupsOf, modulusAt, Moduli, Constants, Inverses, Residues, replaced, combinedLane, linearLane, differenceLane}
 use Rattle.lanes.proofs.Changes.{replaced-inside}
 use Rattle.lanes_meaning.proofs.Meaning.{whole, residues-replaced, combined-lane, linear-lane, combined-below, difference-lane, difference-below}
 use Rattle.evaluation.specs.Values.{Narrow}
@@ -53,6 +53,11 @@ module _ {q : Prime} {ps : List ℕ} (cs : Constants q ps) where
 
   pub form-below : (e : ℕ) {x : Factor} → x ≡ factorOf q e → x .form < modulusAt ps
   form-below e {x} h = rw (ap (λ (f : Factor). f .form) h, cs .number) (mod-lt (e * 65536) (modulus-positive q))
+
+  -- what is asked for, to combine two arrays
+  pub combining : (start n x y : ℕ) {a b : List ℕ} {m c : Factor} → start ≤ n → n ≤ 32 → Residues ps a → Residues ps b → m ≡ factorOf q x → c ≡ factorOf q y
+      → (start ≤ n) × (n ≤ 32) × Moduli ps × Residues ps a × Residues ps b × (m .form < modulusAt ps) × (c .form < modulusAt ps)
+  combining start n x y low few ra rb em ec = (low, few, cs .moduli, ra, rb, form-below x em, form-below y ec)
 
   module _ {n : ℕ} {a : List ℕ} (ha : Holds (modulusOf q) n a) where
     -- (u - x) a

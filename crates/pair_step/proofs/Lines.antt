@@ -9,9 +9,11 @@ use native.Mathlib.Omega.{arith}
 use lib.Dec.{eqb}
 use borrow.Author.Tests.{eq-eqb, ne-eqb, lt-ltb, le-ltb}
 use Rattle.poly.specs.Coefficients.{at}
+use Rattle.lanes.specs.Lanes.{Constants}
+use Rattle.evaluation.specs.Values.{Narrow}
 use Rattle.pair_step.specs.declared.Row.{Row}
 use Rattle.pair_step.specs.declared.Side.{Side}
-use Rattle.pair_step.specs.Held.{Fits, Held, longerOf, Advanced, Cleared, Stays, Freed, lineOf, Lined}
+use Rattle.pair_step.specs.Held.{PairHeld, primeAt, Fits, Held, longerOf, Advanced, Cleared, Stays, Freed, lineOf, Lined}
 use Rattle.pair_step.proofs.Arrays.{held-mono}
 use Rattle.pair_step.proofs.Following.{advanced-is, combined-is, follow-advanced, follow-cleared}
 
@@ -35,30 +37,35 @@ module _ {A : Type 0} (m c : ℕ) (leads : Bool) (stays multiplied combined : A)
   line-combined n k e = simp (ne-eqb _ _ n, ne-eqb _ _ k, e)
 
 -- the longer length, from both sides
-pub longer-least : (n l m : ℕ) → n ≤ m → l ≤ m → longerOf n l ≤ m
+longer-least : (n l m : ℕ) → n ≤ m → l ≤ m → longerOf n l ≤ m
 longer-least n l m hn hl = go (decLt n l)
   where
     go : Dec (n < l) → longerOf n l ≤ m
     go (yes h) = rw (lt-ltb _ _ h) hl
     go (no h) = rw (le-ltb n l (omega arith)) hn
 
-pub longer-left : (n l : ℕ) → n ≤ longerOf n l
-longer-left n l = go (decLt n l)
+longer-both : (n l : ℕ) → (n ≤ longerOf n l) × (l ≤ longerOf n l)
+longer-both n l = go (decLt n l)
   where
-    go : Dec (n < l) → n ≤ longerOf n l
-    go (yes h) = rw (lt-ltb _ _ h) (omega arith)
-    go (no h) = rw (le-ltb n l (omega arith)) (omega arith)
+    go : Dec (n < l) → (n ≤ longerOf n l) × (l ≤ longerOf n l)
+    go (yes h) = rw (lt-ltb _ _ h) (omega arith, omega arith)
+    go (no h) = rw (le-ltb n l (omega arith)) (omega arith, omega arith)
 
-pub longer-right : (n l : ℕ) → l ≤ longerOf n l
-longer-right n l = go (decLt n l)
-  where
-    go : Dec (n < l) → l ≤ longerOf n l
-    go (yes h) = rw (lt-ltb _ _ h) (omega arith)
-    go (no h) = rw (le-ltb n l (omega arith)) (omega arith)
-
--- of two pairs before a row
-pub longer-short : {r : Row} → Fits r → {m n l : ℕ} → m ≡ longerOf n l → n ≤ r .index + 1 → l ≤ r .index + 1 → m ≤ 31
-longer-short fits {m} {n} {l} e hn hl = omega (arith, e, longer-least n l _ hn hl, fits .there, fits .few)
+-- what is asked for, to free (s, t) of its discrepancy by (a, b)
+pub freeing : {r : Row} {ps : List ℕ} {u w : Side} {a b d s t e : List ℕ} {n : ℕ} → Constants (r .prime) ps → Fits r → Held r u a b d → Held r w s t e
+    → u .n ≤ r .index + 1 → w .n ≤ r .index + 1 → n ≡ longerOf (u .n) (w .n)
+    → Constants (r .prime) ps × Fits r × (n ≤ 32) × PairHeld (primeAt r) n a b × Narrow (primeAt r) d × PairHeld (primeAt r) n s t × Narrow (primeAt r) e
+freeing {u = u} {w = w} cs fits h k low other e =
+    let long = longer-both (u .n) (w .n) in
+    let short = longer-least (u .n) (w .n) _ low other in (
+      cs,
+      fits,
+      omega (arith, e, fits .there, fits .few),
+      held-mono (h .pair) (omega (arith, e)),
+      h .discrepancies,
+      held-mono (k .pair) (omega (arith, e)),
+      k .discrepancies,
+    )
 
 -- the length may be given by an equal number
 pub freed-longer : {r : Row} {n m : ℕ} {ps a b d s t e s′ t′ e′ : List ℕ} {u u′ : Side} → n ≡ m → Freed r ps n a b d u s t e u′ s′ t′ e′
@@ -98,6 +105,7 @@ module _ {r : Row} (fits : Fits r) {ps vs xs : List ℕ} {u w : Side} {a b d s t
       → Cleared r ps (longerOf (w .n) (u .n)) s t e u a b d u′ a′ b′ d′ → Lined r ps vs xs leads u a b d w s t e u′ a′ b′ d′
   clears n c f i =
       let most = longer-least (w .n) (u .n) _ other low in
+      let long = longer-both (w .n) (u .n) in
       let short : longerOf (w .n) (u .n) ≤ 31 = omega (arith, most, fits .there, fits .few) in
       rw (i .side) (record {
         pair = combined-is _ _ _ _ _ _ _ _ _ (i .left) (i .right) ∙ line-combined _ _ _ _ _ _ n c f;
@@ -106,7 +114,7 @@ module _ {r : Row} (fits : Fits r) {ps vs xs : List ℕ} {u w : Side} {a b d s t
         held = i .held;
         low = omega (arith, most);
         followed = λ l y z j g form own beside.
-            follow-cleared i short (held-mono (k .pair) (longer-left _ _)) (held-mono (h .pair) (longer-right _ _)) _ _ l y z j g beside own;
+            follow-cleared i short (held-mono (k .pair) (long .0)) (held-mono (h .pair) (long .1)) _ _ l y z j g beside own;
       })
 
 -- both, where (a, b) leads

@@ -2,8 +2,7 @@ use mathlib.Core.Path.{refl, ap}
 use mathlib.Core.Bool.{not}
 use Rattle.pair_step.specs.declared.Sides.{Sides}
 use Rattle.pair_step.specs.Held.{firstLeads}
-use Rattle.pair_step.proofs.Arrays.{held-mono}
-use Rattle.pair_step.proofs.Lines.{longer-short, longer-left, longer-right, freed-longer, stays, exchanged}
+use Rattle.pair_step.proofs.Lines.{freeing, freed-longer, stays, exchanged}
 use borrow.Author.Needs.{needs}
 use native.Mathlib.Omega.{arith}
 use Rattle.pair_step.proofs.step.Statement.{statement}
@@ -14,15 +13,7 @@ clear-requires c κs =
     let N = c .before .before .before .before .before .before in
     let S = N .before .before .before .before .before .before .before .before in
     let low = S .pre .4 in
-    let n = N .longer .ensures in (
-      S .pre .0,
-      S .pre .2,
-      omega (arith, longer-short (S .pre .2) n (low .first-low) (low .second-low)),
-      held-mono (S .pre .5 .pair) (omega (arith, n, longer-left (S .args .sides .first .n) (S .args .sides .second .n))),
-      S .pre .5 .discrepancies,
-      held-mono (S .pre .6 .pair) (omega (arith, n, longer-right (S .args .sides .first .n) (S .args .sides .second .n))),
-      S .pre .6 .discrepancies,
-    )
+    freeing (S .pre .0) (S .pre .2) (S .pre .5) (S .pre .6) (low .first-low) (low .second-low) (N .longer .ensures)
 
 advance-requires : tie.Need-advance-requires
 advance-requires c κs =
@@ -36,15 +27,7 @@ clear-requires-2 c κs =
     let N = c .before .before .before .before .before .before in
     let S = N .before .before .before .before .before .before .before .before in
     let low = S .pre .4 in
-    let n = N .longer2 .ensures in (
-      S .pre .0,
-      S .pre .2,
-      omega (arith, longer-short (S .pre .2) n (low .second-low) (low .first-low)),
-      held-mono (S .pre .6 .pair) (omega (arith, n, longer-left (S .args .sides .second .n) (S .args .sides .first .n))),
-      S .pre .6 .discrepancies,
-      held-mono (S .pre .5 .pair) (omega (arith, n, longer-right (S .args .sides .second .n) (S .args .sides .first .n))),
-      S .pre .5 .discrepancies,
-    )
+    freeing (S .pre .0) (S .pre .2) (S .pre .6) (S .pre .5) (low .second-low) (low .first-low) (N .longer2 .ensures)
 
 advance-requires-2 : tie.Need-advance-requires-2
 advance-requires-2 c κs =
