@@ -72,10 +72,6 @@ module _ {q : Prime} {ps : List ℕ} (cs : Constants q ps) (k : ℕ) (l : k < 32
   unfolding combinedLane
   combined-below d c a b = below _
 
-  pub linear-below : (x : Factor) (a : List ℕ) → linearLane ps x a k < modulusAt ps
-  unfolding linearLane
-  linear-below x a = below _
-
   -- d a - c b
   pub combined-lane : (d c : ℕ) (a b : List ℕ) → c ≤ modulusOf q
       → combinedLane ps (factorOf q d) a (factorOf q c) b k ≡ combinationAt (modulusOf q) d a c b k

@@ -23,7 +23,7 @@ use Rattle.evaluation.specs.Values.{Narrow}
 use Rattle.pair_step.specs.declared.Side.{Side}
 use Rattle.pair_step.specs.Held.{Holds, PairHeld, pairOf}
 
-pub holds-mono : {p n m : ℕ} {a : List ℕ} → Holds p n a → n ≤ m → Holds p m a
+holds-mono : {p n m : ℕ} {a : List ℕ} → Holds p n a → n ≤ m → Holds p m a
 holds-mono h l = record { bounded = bounded-mono (h .bounded) l; size = h .size }
 
 pub held-mono : {p n m : ℕ} {a b : List ℕ} → PairHeld p n a b → n ≤ m → PairHeld p m a b
