@@ -36,15 +36,9 @@ checked-entry xs k = go (every inverts 0 xs) refl (ltb k (length xs)) refl
     go true e false f = refl
     go true e true f = inverts-is k (getD xs k 0) (at-entry inverts xs e k (ltb-true k (length xs) f))
 
-mul-result : tie.Need-mul-result
-mul-result c = search needs
-
-array-read-result : tie.Need-array-read-result
-array-read-result c = search needs
-
 returns : tie.Need-returns
 unfolding inverts
 returns c = rw checked-entry (simp (lt-ltb _ _ (c .pre)))
 
 pub reciprocal-of-spec : {M : Type 1} → statement M
-reciprocal-of-spec = tie.close (tie.spec mul-result array-read-result returns)
+reciprocal-of-spec = tie.close (tie.spec (λ c. search needs) (λ c. search needs) returns)

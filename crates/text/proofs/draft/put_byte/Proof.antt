@@ -7,12 +7,6 @@ use native.Mathlib.Omega.{arith}
 use Rattle.text.proofs.draft.put_byte.Statement.{statement}
 use Rattle.text.proofs.draft.put_byte.Tie as tie
 
-array-write-bytes : tie.Need-array-write-bytes
-array-write-bytes c = search needs
-
-add-t9 : tie.Need-add-t9
-add-t9 c = search needs
-
 returns : tie.Need-returns
 returns c =
     let g = c .before .before .args in
@@ -26,4 +20,4 @@ returns-2 c =
     put-full (g .draft .bytes) whole (g .draft .count) (g .byte) (omega arith)
 
 pub put-byte-spec : {M : Type 1} → statement M
-put-byte-spec = tie.close (tie.spec array-write-bytes add-t9 returns returns-2)
+put-byte-spec = tie.close (tie.spec (λ c. search needs) (λ c. search needs) returns returns-2)
