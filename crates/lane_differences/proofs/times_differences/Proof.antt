@@ -17,34 +17,31 @@ abbrev μ-loop : tie.MeasureT-loop
 loop-holds : tie.Need-loop-holds Inv-loop μ-loop
 loop-holds c = changing-start _ _ _ _ (omega arith) (c .pre .5 .size)
 
+-- the lane of a turn
+lane : (T : tie.In-loop Inv-loop μ-loop) → T .before .loop .k < 32
+lane T = omega arith
+
 difference-requires : tie.Need-difference-requires Inv-loop μ-loop
 difference-requires c κs =
-    let L = c .before .before .before in
-    let S = L .before in
-    let k = L .loop .k in
-    let l : k < 32 = omega arith in
-    let m = S .pre .2 in
-    let x = splat-below m k l (S .pre .4) in
-    (below-lane m k l (S .pre .3 .below k), omega arith)
+    let T = c .before .before in
+    let S = T .before .before in
+    let x = splat-below (S .pre .2) _ (lane T) (S .pre .4) in
+    (below-lane (S .pre .2) _ (lane T) (S .pre .3 .below _), omega arith)
 
 product-requires : tie.Need-product-requires Inv-loop μ-loop
 product-requires c κs =
-    let L = c .before .before .before .before .before .before .before in
-    let S = L .before in
-    let k = L .loop .k in
-    let l : k < 32 = omega arith in
-    let a = next-below (S .pre .2) k l (S .pre .5) (L .loop .inv) in
+    let T = c .before .before .before .before .before .before in
+    let a = next-below (T .before .before .pre .2) _ (lane T) (T .before .before .pre .5) (T .before .loop .inv) in
     (less-below _ _ _ (omega arith) (c .before .before .before .difference .ensures), a)
 
 loop-again : tie.Need-loop-again Inv-loop μ-loop
 loop-again c =
-    let L = c .before .before .before .before .before .before .before .before in
-    let S = L .before in
-    let k = L .loop .k in
-    let l : k < 32 = omega arith in
-    let value = difference-is (S .args .ps .now) (S .args .a .now) k (S .args .vs .now) (S .args .xs .now) (S .args .x) (splat _ k l)
-    (c .before .before .before .before .difference .ensures) (c .before .before .low .ensures) (changing-same (L .loop .inv)) (c .product .ensures) in
-    changing-next (L .loop .inv) (c .product .result) (omega arith) (omega arith) value
+    let T = c .before .before .before .before .before .before .before in
+    let S = T .before .before in
+    let inv = T .before .loop .inv in
+    let value = difference-is (S .args .ps .now) (S .args .a .now) _ (S .args .vs .now) (S .args .xs .now) (S .args .x) (splat _ _ (lane T))
+    (c .before .before .before .before .difference .ensures) (c .before .before .low .ensures) (changing-same inv) (c .product .ensures) in
+    changing-next inv (c .product .result) (omega arith) (omega arith) value
 
 returns : tie.Need-returns Inv-loop μ-loop
 returns c = (refl, changing-end (c .before .loop .inv) (omega arith))

@@ -15,33 +15,31 @@ abbrev μ-loop : tie.MeasureT-loop
 loop-holds : tie.Need-loop-holds Inv-loop μ-loop
 loop-holds c = changing-start _ _ _ _ (omega arith) (c .before .pre .3 .size)
 
+-- the lane of a turn
+lane : (T : tie.In-loop Inv-loop μ-loop) → T .before .loop .k < 32
+lane T = omega arith
+
 product-requires : tie.Need-product-requires Inv-loop μ-loop
 product-requires c κs =
-    let L = c .before .before .before .before .before .before in
-    let S = L .before .before in
-    let k = L .loop .k in
-    let l : k < 32 = omega arith in
-    let m = S .pre .1 in
-    (below-lane m k l (S .pre .2 .below k), next-below m k l (S .pre .3) (L .loop .inv))
+    let T = c .before .before .before .before .before in
+    let S = T .before .before .before in
+    (below-lane (S .pre .1) _ (lane T) (S .pre .2 .below _), next-below (S .pre .1) _ (lane T) (S .pre .3) (T .before .loop .inv))
 
 difference-requires : tie.Need-difference-requires Inv-loop μ-loop
 difference-requires c κs =
-    let L = c .before .before .before .before .before .before .before in
-    let S = L .before .before in
-    let k = L .loop .k in
-    let l : k < 32 = omega arith in
-    let x = below-lane (S .pre .1) k l (S .pre .2 .below k) in
-    (reduced-below _ _ _ _ (omega arith) (c .product .ensures), splat-most (S .pre .1) k l (omega arith))
+    let T = c .before .before .before .before .before .before in
+    let S = T .before .before .before in
+    let x = below-lane (S .pre .1) (T .before .loop .k) (lane T) (S .pre .2 .below (T .before .loop .k)) in
+    (reduced-below _ _ _ _ (omega arith) (c .product .ensures), splat-most (S .pre .1) _ (lane T) (omega arith))
 
 loop-again : tie.Need-loop-again Inv-loop μ-loop
 loop-again c =
-    let L = c .before .before .before .before .before .before .before .before in
-    let S = L .before .before in
-    let k = L .loop .k in
-    let l : k < 32 = omega arith in
-    let value = horner-is (S .args .ps .now) (S .args .a .now) k (S .args .vs .now) (S .args .xs .now) (S .args .c) (splat _ k l)
-    (c .before .before .before .low .ensures) (changing-same (L .loop .inv)) (c .before .product .ensures) (c .difference .ensures) in
-    changing-next (L .loop .inv) (c .difference .result) (omega arith) (omega arith) value
+    let T = c .before .before .before .before .before .before .before in
+    let S = T .before .before .before in
+    let inv = T .before .loop .inv in
+    let value = horner-is (S .args .ps .now) (S .args .a .now) _ (S .args .vs .now) (S .args .xs .now) (S .args .c) (splat _ _ (lane T))
+    (c .before .before .before .low .ensures) (changing-same inv) (c .before .product .ensures) (c .difference .ensures) in
+    changing-next inv (c .difference .result) (omega arith) (omega arith) value
 
 returns : tie.Need-returns Inv-loop μ-loop
 returns c = (omega arith, changing-end (c .before .loop .inv) (omega arith))

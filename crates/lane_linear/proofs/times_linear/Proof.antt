@@ -21,35 +21,31 @@ loop-holds : tie.Need-loop-holds Inv-loop μ-loop
 loop-holds c =
     (changing-start _ _ _ _ (omega arith) (c .pre .2 .size), refl, omega (arith, c .pre .2 .below 0))
 
+-- the lane of a turn
+lane : (T : tie.In-loop Inv-loop μ-loop) → T .before .loop .k < 32
+lane T = omega arith
+
 product-requires : tie.Need-product-requires Inv-loop μ-loop
 product-requires c κs =
-    let L = c .before .before .before in
-    let S = L .before in
-    let k = L .loop .k in
-    let l : k < 32 = omega arith in
-    let m = S .pre .1 in
-    (splat-below m k l (S .pre .3), next-below m k l (S .pre .2) (L .loop .inv .0))
+    let T = c .before .before in
+    let S = T .before .before in
+    (splat-below (S .pre .1) _ (lane T) (S .pre .3), next-below (S .pre .1) _ (lane T) (S .pre .2) (T .before .loop .inv .0))
 
 difference-requires : tie.Need-difference-requires Inv-loop μ-loop
 difference-requires c κs =
-    let L = c .before .before .before .before in
-    let S = L .before in
-    let k = L .loop .k in
-    let l : k < 32 = omega arith in
-    let lower = below-lane (S .pre .1) k l (L .loop .inv .2) in
+    let T = c .before .before .before in
+    let lower = below-lane (T .before .before .pre .1) _ (lane T) (T .before .loop .inv .2) in
     let taken = reduced-below _ _ _ _ (omega arith) (c .product .ensures) in
     (lower, omega arith)
 
 loop-again : tie.Need-loop-again Inv-loop μ-loop
 loop-again c =
-    let L = c .before .before .before .before .before in
-    let S = L .before in
-    let k = L .loop .k in
-    let l : k < 32 = omega arith in
-    let inv = L .loop .inv in
+    let T = c .before .before .before .before in
+    let S = T .before .before in
+    let inv = T .before .loop .inv in
     let same = changing-same (inv .0) in
-    let value = linear-is (S .args .ps .now) (S .args .a .now) k _ (splat _ k l) (splat _ k l) (inv .1) same (c .before .product .ensures) (c .difference .ensures) in
-    (changing-next (inv .0) (c .difference .result) (omega arith) (omega arith) value, rw add-one same, rw same (S .pre .2 .below k))
+    let value = linear-is (S .args .ps .now) (S .args .a .now) _ _ (splat _ _ (lane T)) (splat _ _ (lane T)) (inv .1) same (c .before .product .ensures) (c .difference .ensures) in
+    (changing-next (inv .0) (c .difference .result) (omega arith) (omega arith) value, rw add-one same, rw same (S .pre .2 .below _))
 
 returns : tie.Need-returns Inv-loop μ-loop
 returns c = (omega arith, changing-end (c .before .loop .inv .0) (omega arith))
