@@ -2,13 +2,12 @@
 use Prim.Native.Nat.{ℕ, zero, suc, _+_, _-_, _*_, _≤_, _<_}
 use mathlib.Core.Path.{_≡_, refl, ap, _∙_}
 use mathlib.Core.List.{List, _++_}
-use native.Mathlib.Nat.{mul-le-mul-right, le-refl}
+use native.Mathlib.Nat.{le-refl}
 use native.Mathlib.Omega.{arith}
-use lib.ListN.{length, getD, take, drop, length-append}
-use lib.Seq.{take-at, drop-at}
+use lib.ListN.{length, getD, length-append}
 use Rattle.format.specs.declared.Bounds.{Bounds}
 use Rattle.format.specs.Bounds.{numeratorBoundOf, answerLengthOf}
-use Rattle.answer.specs.Bytes.{twoBytes, fourBytes, coefficientBytes, outputBytes, answerBytes, numeratorStart, overwritten}
+use Rattle.answer.specs.Bytes.{twoBytes, fourBytes, coefficientBytes, outputBytes, numeratorStart}
 
 pub length-coefficients : (a : List ℕ) (count : ℕ) → length (coefficientBytes a count) ≡ 2 * count
 unfolding coefficientBytes
@@ -36,7 +35,7 @@ output-within b f i n h =
     let e : n ≡ suc i + (n - suc i) = omega arith in
     rw e (omega (arith, length-output b f i, outputs-rising b f (suc i) (n - suc i)))
 
-pub length-outputs : (b : Bounds) (f : ℕ → List ℕ) (n : ℕ) → length (outputBytes b f n) ≡ 2 * (n * (b .df + 1))
+length-outputs : (b : Bounds) (f : ℕ → List ℕ) (n : ℕ) → length (outputBytes b f n) ≡ 2 * (n * (b .df + 1))
 unfolding outputBytes
 length-outputs b f zero = omega arith
 length-outputs b f (suc n) = omega (arith, length-outputs b f n, length-output b f n)
@@ -54,27 +53,3 @@ numerator-start b f (suc i) = omega (arith, numerator-start b f i, length-output
 pub length-front : (word : ℕ) (g : List ℕ) (count : ℕ) → length (fourBytes word ++ coefficientBytes g count) ≡ 4 + 2 * count
 length-front word g count =
     length-append (fourBytes word) (coefficientBytes g count) ∙ ap (λ k. 4 + k) (length-coefficients g count)
-
--- the bytes are as many as paper 01's formula says
-pub length-answer : (b : Bounds) (word : ℕ) (g : List ℕ) (f : ℕ → List ℕ) → length (answerBytes b word g f) ≡ answerLengthOf b
-length-answer b word g f =
-    let outputs = outputBytes b f (b .outputs) in
-    length-append (fourBytes word ++ coefficientBytes g (b .dg + 1)) outputs
-    ∙ ap (λ k. k + length outputs) (length-front word g (b .dg + 1)) ∙ answer-end b f
-
--- what is read from an area that holds an answer
-pub answer-front : (b : Bounds) (word : ℕ) (g : List ℕ) (f : ℕ → List ℕ) (old : List ℕ) → take (answerLengthOf b) (overwritten (answerBytes b word g f) old) ≡ answerBytes b word g f
-answer-front b word g f old =
-    let new = answerBytes b word g f in
-    take-at new (drop (length new) old) (answerLengthOf b) (length-answer b word g f)
-
--- "Bytes of the answer area behind it keep their contents"
-pub answer-behind : (b : Bounds) (word : ℕ) (g : List ℕ) (f : ℕ → List ℕ) (old : List ℕ) → drop (answerLengthOf b) (overwritten (answerBytes b word g f) old) ≡ drop (answerLengthOf b) old
-answer-behind b word g f old =
-    let new = answerBytes b word g f in
-    let long = length-answer b word g f in
-    drop-at new (drop (length new) old) (answerLengthOf b) long ∙ ap (λ k. drop k old) long
-
--- "254 at most": a job has at most 31 rows, and no fewer than df + dg + 2 E + 1
-pub answer-short : (b : Bounds) → b .df + b .dg ≤ 30 → b .outputs ≤ 4 → answerLengthOf b ≤ 254
-answer-short b low few = omega (arith, mul-le-mul-right (b .df + 1) few)

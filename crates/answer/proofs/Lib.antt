@@ -2,5 +2,4 @@ pub mod Splices
 pub mod Lengths
 pub mod Runs
 pub mod Reading
-pub mod Determined
 mod Examples

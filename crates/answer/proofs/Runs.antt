@@ -11,13 +11,13 @@ use Rattle.answer.specs.Bytes.{twoBytes, fourBytes, coefficientBytes, ou
 use Rattle.answer.proofs.Splices.{splice-splice, splice-behind}
 use Rattle.answer.proofs.Lengths.{length-coefficients, length-output, length-front, answer-end}
 
-pub next-coefficient : (at : ℕ) (a : List ℕ) (k : ℕ) (old area : List ℕ) → at + 2 * k ≤ length old → area ≡ spliced at (coefficientBytes a k) old
-    → spliced (at + 2 * k) (twoBytes (getD a k 0)) area ≡ spliced at (coefficientBytes a (k + 1)) old
+pub next-coefficient : (at : ℕ) (a : List ℕ) (k next : ℕ) (old area : List ℕ) → next ≡ at + 2 * k → next ≤ length old → area ≡ spliced at (coefficientBytes a k) old
+    → spliced next (twoBytes (getD a k 0)) area ≡ spliced at (coefficientBytes a (k + 1)) old
 unfolding coefficientBytes
-next-coefficient at a k old area fits written =
+next-coefficient at a k next old area place fits written =
     let bytes = coefficientBytes a k in
     let long = length-coefficients a k in
-    rw (add-one, ← long, written) (splice-splice at bytes old (omega arith) (twoBytes (getD a k 0)))
+    rw (place, add-one, ← long, written) (splice-splice at bytes old (omega arith) (twoBytes (getD a k 0)))
 
 module _ (b : Bounds) (f : ℕ → List ℕ) (i at next bound : ℕ) (place : next ≡ at + length (outputBytes b f i)) (known : bound ≡ numeratorBoundOf b i) where
   pub next-place : next + 2 * (bound + 1) ≡ at + length (outputBytes b f (i + 1))

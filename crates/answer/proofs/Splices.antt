@@ -11,7 +11,7 @@ use Rattle.answer.specs.Bytes.{spliced, overwritten}
 pub splice-none : (at : ℕ) (old : List ℕ) → spliced at [] old ≡ old
 splice-none at old = ap₂ (λ k l. l ++ drop k old) (add-zero at) (append-nil (take at old)) ∙ take-append-drop at old
 
-pub splice-front : (new old : List ℕ) → spliced 0 new old ≡ overwritten new old
+splice-front : (new old : List ℕ) → spliced 0 new old ≡ overwritten new old
 splice-front new old = ap (λ k. new ++ drop k old) (zero-add (length new))
 
 module _ (at : ℕ) (first old : List ℕ) (fits : at + length first ≤ length old) where

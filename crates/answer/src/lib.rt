@@ -8,23 +8,26 @@ ghost use Rattle.answer.specs.Bytes.{twoBytes, fourBytes, coefficientByt
 use format::Bounds;
 use poly::Poly;
 
-fn put_word(area: &mut [u8], word: u32)
+// The word at the area's start; returns the place behind it.
+fn put_word(area: &mut [u8], word: u32) -> usize
     requires { ⌜ 4 ≤ length (now area) ⌝ }
-    ensures { λ _. ⌜ now (area .exit) ≡ overwritten (fourBytes word) (now (area .entry)) ⌝ }
+    ensures { λ r. ⌜ (r ≡ 4) × (now (area .exit) ≡ overwritten (fourBytes word) (now (area .entry))) ⌝ }
 {
     area[0] = (word / 16777216 % 256) as u8;
     area[1] = (word / 65536 % 256) as u8;
     area[2] = (word / 256 % 256) as u8;
     area[3] = (word % 256) as u8;
+    4
 }
 
-// A 16-bit number from a place on.
-fn put_number(area: &mut [u8], at: usize, value: u32)
+// A 16-bit number from a place on; returns the place behind it.
+fn put_number(area: &mut [u8], at: usize, value: u32) -> usize
     requires { ⌜ at + 2 ≤ length (now area) ⌝ }
-    ensures { λ _. ⌜ now (area .exit) ≡ spliced at (twoBytes value) (now (area .entry)) ⌝ }
+    ensures { λ r. ⌜ (r ≡ at + 2) × (now (area .exit) ≡ spliced at (twoBytes value) (now (area .entry))) ⌝ }
 {
     area[at] = (value / 256 % 256) as u8;
     area[at + 1] = (value % 256) as u8;
+    at + 2
 }
 
 // The first coefficients of a polynomial from a place on; returns the place behind them.
@@ -34,10 +37,11 @@ fn put_coefficients(area: &mut [u8], at: usize, a: Poly, count: usize) -> usize
         ⌜ (r ≡ at + 2 * count)
         × (now (area .exit) ≡ spliced at (coefficientBytes (a .c) count) (now (area .entry))) ⌝ }
 {
+    let mut next = at;
     for k in 0..count {
-        put_number(area, at + 2 * k, a.c[k]);
+        next = put_number(area, next, a.c[k]);
     }
-    at + 2 * count
+    next
 }
 
 // The numerators from a place on; returns the place behind them.
@@ -63,8 +67,8 @@ pub fn write(area: &mut [u8], b: Bounds, word: u32, g: Poly, f: [Poly; 4]) -> us
         ⌜ (r ≡ answerLengthOf b)
         × (now (area .exit) ≡ overwritten (answerBytes b word (g .c) (coefficientsAt f)) (now (area .entry))) ⌝ }
 {
-    put_word(area, word);
+    let first = put_word(area, word);
     let dg = b.dg;
-    let next = put_coefficients(area, 4, g, dg + 1);
+    let next = put_coefficients(area, first, g, dg + 1);
     put_outputs(area, next, b, f)
 }

@@ -4,13 +4,13 @@ use mathlib.Core.Bool.{Bool, true, false, cond}
 use mathlib.Core.List.{List}
 use Prim.Native.Nat.{ℕ, _+_, _*_, _%_, _≤_, _<_}
 use native.Mathlib.Nat.{mod-lt}
-use native.Mathlib.Decide.{decLt}
-use native.Mathlib.Omega.{arith}
 use lib.Dec.{ltb}
 use borrow.Author.Tests.{lt-ltb, le-ltb}
-use Rattle.poly.specs.Coefficients.{at, tabulate, Bounded}
+use Rattle.lists.specs.Tabulated.{tabulate}
+use Rattle.poly.specs.Coefficients.{at, Bounded}
 use Rattle.poly.specs.Operations.{valueOf}
-use Rattle.poly.proofs.Lists.{bounded-tabulate, Filled, filled-all}
+use Rattle.lists.proofs.Filling.{Filled, filled-all}
+use Rattle.poly.proofs.Lists.{bounded-tabulate}
 use Rattle.evaluation.specs.Values.{valuesOf}
 use Rattle.evaluation.proofs.Steps.{at-row}
 use Rattle.column.specs.Columns.{columnAt}
@@ -27,7 +27,7 @@ module _ (p rows : ℕ) (points values : List ℕ) (i : ℕ) (g : List ℕ) wher
   column-past l h = rw (le-ltb l rows h)
 
   -- what the loop has stored, v the values of g
-  pub column-all : {v z : List ℕ} → rows ≤ 32 → v ≡ valuesOf p points rows g → Filled (λ l. at v l * at values (l * 4 + i) % p) rows z
+  pub column-all : {v z : List ℕ} → rows ≤ 32 → v ≡ valuesOf p points rows g → Filled 32 (λ l. at v l * at values (l * 4 + i) % p) (λ l. 0) rows z
       → z ≡ tabulate 32 (columnAt p rows points values i g)
   column-all few ev h =
       filled-all
@@ -45,11 +45,3 @@ module _ (p rows : ℕ) (points values : List ℕ) (i : ℕ) (g : List ℕ) wher
       by-row : (l : ℕ) (t : Bool) → cond t (valueOf p (at points l) g * at values (l * 4 + i) % p) 0 < p
       by-row l true = mod-lt _ positive
       by-row l false = positive
-
--- what a loop has stored is below p where f is
-pub filled-below : (p : ℕ) {f : ℕ → ℕ} {k : ℕ} {r : List ℕ} → 0 < p → ((j : ℕ) → f j < p) → Filled f k r → (j : ℕ) → at r j < p
-filled-below p {f} {k} {r} positive low h j = go (decLt j k)
-  where
-    go : Dec (j < k) → at r j < p
-    go (yes done) = rw (h .done j done) (low j)
-    go (no rest) = rw (h .rest j (omega arith)) positive

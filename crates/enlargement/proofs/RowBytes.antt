@@ -1,6 +1,6 @@
 -- Rows with the same bytes: the same point and values, and wrong for the same fractions.
 use mathlib.Core.Path.{_≡_, refl, sym, _∙_, ap, ap₂, subst}
-use mathlib.Core.Bool.{Bool, true, false, _&&_}
+use mathlib.Core.Bool.{true, and-eq-true-iff}
 use mathlib.Core.List.{List, [], _∷_}
 use Prim.Native.Nat.{ℕ, _+_, _*_, _≤_, _<_}
 use native.Mathlib.Omega.{arith}
@@ -8,6 +8,7 @@ use lib.Dec.{eqb}
 use lib.ListN.{getD, take, drop}
 use lib.Seq.{getD-take, getD-drop}
 use borrow.Author.Tests.{eqb-true, eq-eqb}
+use Rattle.lists.proofs.Truth.{clash}
 use Rattle.format.specs.Numbers.{numberFrom}
 use Rattle.format.specs.Bounds.{primeOf}
 use Rattle.field.specs.Primes.{modulusOf}
@@ -19,17 +20,13 @@ use Rattle.problem.proofs.Rows.{wrong-same}
 use Rattle.enlargement.specs.Enlargement.{rowBytes, StandsAt, sameBytes}
 
 -- the test on bytes is equality
-both-true : (a b : Bool) → (a && b) ≡ true → (a ≡ true) × (b ≡ true)
-both-true true b e = (refl, e)
-both-true false b e = absurd (let z : _≡_ {A = ℕ} 0 1 = cc in omega arith)
-
 pub bytes-equal : (l m : List ℕ) → sameBytes l m ≡ true → l ≡ m
 unfolding sameBytes
 bytes-equal [] [] e = refl
-bytes-equal [] (b ∷ m) e = absurd (let z : _≡_ {A = ℕ} 0 1 = cc in omega arith)
-bytes-equal (a ∷ l) [] e = absurd (let z : _≡_ {A = ℕ} 0 1 = cc in omega arith)
+bytes-equal [] (b ∷ m) e = clash (sym e)
+bytes-equal (a ∷ l) [] e = clash (sym e)
 bytes-equal (a ∷ l) (b ∷ m) e =
-    let t = both-true (eqb a b) (sameBytes l m) e in
+    let t = and-eq-true-iff (eqb a b) (sameBytes l m) .0 e in
     ap₂ _∷_ (eqb-true a b (t .0)) (bytes-equal l m (t .1))
 
 itself : (l : List ℕ) → sameBytes l l ≡ true

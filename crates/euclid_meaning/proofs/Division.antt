@@ -13,7 +13,8 @@ use Rattle.field.proofs.Primality.{IsPrime}
 use Rattle.reciprocal.proofs.PrimeField.{residueRing, residueField}
 use Rattle.poly.specs.Coefficients.{Bounded}
 use Rattle.poly.specs.Operations.{lengthOf}
-use Rattle.poly.proofs.Lists.{at-zeros, bounded-mono}
+use Rattle.lists.proofs.Tabulated.{at-zeros}
+use Rattle.poly.proofs.Lists.{bounded-mono}
 use Rattle.poly.proofs.Lengths.{length-at-most}
 use Rattle.poly_meaning.proofs.Series.{series, series-below, zeros-means}
 use Rattle.poly_meaning.proofs.Degrees.{length-means}

@@ -12,7 +12,7 @@ use Rattle.algebra.proofs.Series.{Series, cons, addS, negS, mulS, mulS-zero, mu
 use Rattle.field.proofs.Primality.{IsPrime}
 use Rattle.reciprocal.proofs.PrimeField.{Residue, residue, addR, mulR, negR, addR-null, residue-add, residue-mul, residue-neg, residueRing}
 use Rattle.poly.specs.Coefficients.{at, Bounded}
-use Rattle.poly.proofs.Lists.{at-past}
+use Rattle.lists.proofs.Tabulated.{at-past}
 use Rattle.poly_meaning.proofs.Series.{series, residue-mod, tabulate-means}
 use Rattle.division.specs.Division.{shifted, cancelledAt, cancelledOf, factorOf, divisionStep, remainderFrom, quotientFrom}
 use Rattle.division.proofs.Cancellation.{shifted-above, length-step}

@@ -13,9 +13,10 @@ use Rattle.field.specs.declared.Prime.{Prime}
 use Rattle.field.specs.Primes.{modulusOf}
 use Rattle.field.proofs.Moduli.{modulus-positive, residue-below}
 use Rattle.montgomery.specs.Factors.{formOf}
-use Rattle.poly.specs.Coefficients.{at, tabulate}
+use Rattle.poly.specs.Coefficients.{at}
 use Rattle.poly.specs.Operations.{valueOf}
-use Rattle.poly.proofs.Lists.{at-tabulate, at-past, at-zeros, is-tabulate, length-tabulate, bounded-tabulate}
+use Rattle.lists.proofs.Tabulated.{at-tabulate, at-tabulate-past, at-past, at-zeros, is-tabulate, length-tabulate}
+use Rattle.poly.proofs.Lists.{bounded-tabulate}
 use Rattle.poly.proofs.Values.{value-more, value-start}
 use Rattle.lanes.specs.Lanes.{groupsOf, modulusAt, Constants, Inverses, replaced, hornerLane}
 use Rattle.lanes.proofs.Changes.{replaced-inside, replaced-behind, length-replaced}
@@ -33,9 +34,7 @@ module _ (f : ℕ → ℕ) (points : List ℕ) (rows : ℕ) where
     where
       go : Dec (l < 32) → at (eachPoint f points rows) l ≡ 0
       go (yes h) = at-tabulate 32 _ l h ∙ simp (le-ltb _ _ g)
-      go (no h) =
-          let entry : ℕ → ℕ = λ j. cond (ltb j (groupsOf rows)) (f (at points j)) 0 in
-          at-past (tabulate 32 entry) l (let n = length-tabulate 32 entry in omega arith)
+      go (no h) = at-tabulate-past 32 _ l (omega arith)
 
   -- an entry within the rows
   pub at-row : {v : List ℕ} → v ≡ eachPoint f points rows → rows ≤ 32 → (l : ℕ) → l < rows → at v l ≡ f (at points l)

@@ -7,7 +7,8 @@ use lib.Dec.{ltb}
 use lib.ListN.{length}
 use Rattle.montgomery.specs.Factors.{formOf}
 use Rattle.lanes.specs.Lanes.{groupsOf}
-use Rattle.poly.specs.Coefficients.{at, tabulate}
+use Rattle.lists.specs.Tabulated.{tabulate}
+use Rattle.poly.specs.Coefficients.{at}
 use Rattle.poly.specs.Operations.{valueOf}
 
 -- f at each row's point, and 0 behind the groups

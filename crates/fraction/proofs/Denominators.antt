@@ -9,7 +9,7 @@ use Rattle.field.proofs.Primality.{IsPrime}
 use Rattle.reciprocal.proofs.PrimeField.{residueRing}
 use Rattle.poly.specs.Coefficients.{at}
 use Rattle.poly.specs.Operations.{lengthOf, scaledAt, scaledOf}
-use Rattle.poly.proofs.Lists.{at-tabulate}
+use Rattle.lists.proofs.Tabulated.{at-tabulate}
 use Rattle.poly.proofs.Lengths.{length-past}
 use Rattle.poly_meaning.proofs.Degrees.{null-length, length-means-null}
 use Rattle.division.specs.Division.{quotientOf, degreeOf, leadingReciprocal}

@@ -3,7 +3,7 @@ use mathlib.Core.Path.{_≡_, refl, ap, subst}
 use mathlib.Core.List.{List, [], _∷_, map}
 use Prim.Native.Nat.{ℕ}
 use lib.ListN.{length}
-use Rattle.poly.specs.Coefficients.{tabulate}
+use Rattle.lists.specs.Tabulated.{tabulate}
 use Rattle.poly.specs.Operations.{
   valueOf,
   combinationAt,

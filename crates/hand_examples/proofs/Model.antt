@@ -3,8 +3,8 @@ use mathlib.Core.Path.{_≡_, refl, sym, _∙_, ap, subst}
 use mathlib.Core.Bool.{Bool, true, false}
 use mathlib.Core.List.{List, []}
 use Prim.Native.Nat.{ℕ}
-use native.Mathlib.Omega.{arith}
 use lib.ListN.{length}
+use Rattle.lists.proofs.Truth.{clash}
 use Rattle.format.specs.declared.Outcome.{Outcome}
 use Rattle.format.specs.declared.Outcome.the-variants.{Accepted, Recovered, Refused}
 use Rattle.format.specs.declared.Report.{Report}
@@ -61,8 +61,8 @@ module _ (s area : List ℕ) where
 
   settled-by : (o : Outcome) → outcomeOf s (length area) ≡ o → Is (tested s o)
   settled-by Accepted e = late e _ refl _ refl
-  settled-by (Recovered bytes wrong) e = early (Recovered bytes wrong) e (λ k. let z : _≡_ {A = ℕ} 0 1 = cc in omega arith)
-  settled-by (Refused reason row) e = early (Refused reason row) e (λ k. let z : _≡_ {A = ℕ} 0 1 = cc in omega arith)
+  settled-by (Recovered bytes wrong) e = early (Recovered bytes wrong) e (λ k. clash cc)
+  settled-by (Refused reason row) e = early (Refused reason row) e (λ k. clash cc)
 
   -- what the definition gives is what a call settles, whatever the area holds
   pub result-settled : (room : ℕ) → length area ≡ room → Settled s area (resultOf s room .report) (overwritten (resultOf s room .bytes) area)

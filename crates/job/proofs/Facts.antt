@@ -9,6 +9,7 @@ use native.Mathlib.Omega.{arith}
 use borrow.Author.Tests.{leb-false, eqb-false, eqb-true, ltb-false, not-false, lt-leb, ne-eqb, eq-eqb, le-ltb}
 use lib.Dec.{eqb, leb}
 use lib.ListN.{length}
+use Rattle.lists.proofs.Truth.{clash}
 use Rattle.field.specs.Primes.{modulusOf}
 use Rattle.format.specs.Bounds.{answerLengthOf}
 use Rattle.format.specs.declared.Reason.{Reason}
@@ -22,7 +23,7 @@ use Rattle.row_search.specs.declared.Found.{Found}
 use Rattle.row_search.specs.declared.Found.the-variants.{At, Nothing}
 use Rattle.row_search.specs.Search.{firstBelow, ifHolds, isFound}
 use Rattle.rows.specs.Rows.{jobPoint, jobValue}
-use Rattle.rows.proofs.Order.{lt-or-ge}
+use Rattle.lists.proofs.Order.{lt-or-ge}
 use Rattle.row_search.proofs.FirstBelow.{at-not-nothing, none-passes, any-passes, none-below}
 use Rattle.job.proofs.Deciding.{past-4, accepted}
 use Rattle.job.specs.Refusals.{
@@ -81,7 +82,7 @@ pub record WellFormedFacts (s : List ℕ) (area : ℕ) : Type 0 where
   pub enough-area : answerLengthOf (boundsOf s) ≤ area
 
 refused-not-accepted : {reason : Reason} {row : ℕ} → Refused reason row ≡ Accepted → ⊥
-refused-not-accepted {reason} {row} e = let z : _≡_ {A = ℕ} 0 1 = cc in omega arith
+refused-not-accepted e = clash cc
 
 -- a test that leaves the job accepted found nothing, and so did the later ones
 passed : (reason : Reason) (f : Found) (later : Outcome) → refuse reason f later ≡ Accepted → (f ≡ Nothing) × (later ≡ Accepted)

@@ -6,7 +6,7 @@ use Prim.Native.Nat.{ℕ, zero, suc, _-_, _<_, _≤_}
 use native.Mathlib.Omega.{arith}
 use borrow.Author.Tests.{lt-ltb, le-ltb}
 use lib.Dec.{ltb}
-use Rattle.rows.proofs.Order.{lt-or-ge}
+use Rattle.lists.proofs.Order.{lt-or-ge}
 
 -- closes the gap that v leaves among the numbers other than v
 collapse : ℕ → ℕ → ℕ

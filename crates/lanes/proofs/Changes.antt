@@ -1,70 +1,76 @@
--- A loop that changes an array of 32 residues in place, from `start` on: it has stored f's values there below k, and the rest is as it was.
-use mathlib.Core.Path.{_≡_, refl, sym, subst, _∙_}
+-- A loop that changes an array of 32 residues in place, from `start` on and below `end`.
+use mathlib.Core.Path.{_≡_, sym, _∙_}
 use mathlib.Core.Bool.{cond, _&&_}
 use mathlib.Core.List.{List, _∷_}
-use mathlib.Core.Logic.{⊎-elim}
 use Prim.Native.Nat.{ℕ, _+_, _-_, _*_, _%_, _≤_, _<_}
-use native.Mathlib.Nat.{eq-or-lt-of-le, mod-lt}
-use native.Mathlib.Decide.{decLt}
+use native.Mathlib.Nat.{mod-lt}
 use native.Mathlib.Omega.{arith}
 use lib.Dec.{leb, ltb}
-use lib.ListN.{length, set, replicate, length-set, getD-replicate}
-use lib.Seq.{getD-set-same, getD-set-other}
+use lib.ListN.{length, set, replicate, getD-replicate}
 use borrow.Author.Tests.{lt-ltb, le-ltb, le-leb, lt-leb}
+use Rattle.lists.proofs.Tabulated.{length-tabulate, at-tabulate}
+use Rattle.lists.proofs.Filling.{Filled, filled-from, filled-more, filled-all}
 use Rattle.poly.specs.Coefficients.{at}
-use Rattle.poly.proofs.Lists.{is-tabulate, length-tabulate, at-tabulate}
 use Rattle.reduction.specs.Reduction.{reducedOf}
 use Rattle.montgomery.specs.declared.Factor.{Factor}
-use Rattle.lanes.specs.Lanes.{modulusAt, Moduli, replaced, combinedLane, linearLane, differenceLane, hornerLane}
-
-pub record Changed (f : ℕ → ℕ) (start k : ℕ) (old a : List ℕ) : Type 0 where
-  pub size : length a ≡ 32
-  pub before : (j : ℕ) → j < start → at a j ≡ at old j
-  pub done : (j : ℕ) → start ≤ j → j < k → at a j ≡ f j
-  pub rest : (j : ℕ) → k ≤ j → at a j ≡ at old j
-
-pub changed-none : (f : ℕ → ℕ) (start : ℕ) (a : List ℕ) → length a ≡ 32 → Changed f start start a a
-changed-none f start a h = record { size = h; before = λ j l. refl; done = λ j l m. absurd (omega arith); rest = λ j l. refl }
-
-pub changed-more : {f : ℕ → ℕ} {start k : ℕ} {old a : List ℕ} → Changed f start k old a → (v : ℕ) → start ≤ k → k < 32 → v ≡ f k
-    → Changed f start (k + 1) old (set a k v)
-changed-more {f} {start} {k} {old} {a} h v s l e = record {
-  size = length-set a k v ∙ h .size;
-  before = λ j lj. getD-set-other a k j v 0 (λ same. omega arith) ∙ h .before j lj;
-  done = λ j sj lj. ⊎-elim
-      (λ (same : j ≡ k). subst (λ (i : ℕ). at (set a k v) i ≡ f i) (sym same) (getD-set-same a k v 0 (let n = h .size in omega arith) ∙ e))
-      (λ (lower : j < k). getD-set-other a k j v 0 (λ same. omega arith) ∙ h .done j sj lower)
-      (eq-or-lt-of-le (omega arith));
-  rest = λ j lj. getD-set-other a k j v 0 (λ same. omega arith) ∙ h .rest j (omega arith);
-}
+use Rattle.lanes.specs.Lanes.{modulusAt, Moduli, Residues, replaced, combinedLane, linearLane, differenceLane, hornerLane}
 
 -- an entry of a replaced array
 module _ (start end : ℕ) (f : ℕ → ℕ) (a : List ℕ) where
+  abbrev pub replacedAt : ℕ → ℕ
+  replacedAt k = cond (leb start k && ltb k end) (f k) (at a k)
+
+  at-before : (k : ℕ) → k < start → replacedAt k ≡ at a k
+  at-before k s = simp (lt-leb _ _ s)
+
+  at-inside : (k : ℕ) → start ≤ k → k < end → replacedAt k ≡ f k
+  at-inside k s e = simp (le-leb _ _ s, lt-ltb _ _ e)
+
+  at-behind : (k : ℕ) → start ≤ k → end ≤ k → replacedAt k ≡ at a k
+  at-behind k s e = simp (le-leb _ _ s, le-ltb _ _ e)
+
   pub replaced-inside : (k : ℕ) → k < 32 → start ≤ k → k < end → at (replaced start end f a) k ≡ f k
   unfolding replaced
-  replaced-inside k l s e = at-tabulate 32 _ k l ∙ simp (le-leb _ _ s, lt-ltb _ _ e)
+  replaced-inside k l s e = at-tabulate 32 _ k l ∙ at-inside k s e
 
   pub replaced-before : (k : ℕ) → k < 32 → k < start → at (replaced start end f a) k ≡ at a k
   unfolding replaced
-  replaced-before k l s = at-tabulate 32 _ k l ∙ simp (lt-leb _ _ s)
+  replaced-before k l s = at-tabulate 32 _ k l ∙ at-before k s
 
   pub replaced-behind : (k : ℕ) → k < 32 → start ≤ k → end ≤ k → at (replaced start end f a) k ≡ at a k
   unfolding replaced
-  replaced-behind k l s e = at-tabulate 32 _ k l ∙ simp (le-leb _ _ s, le-ltb _ _ e)
+  replaced-behind k l s e = at-tabulate 32 _ k l ∙ at-behind k s e
 
   pub length-replaced : length (replaced start end f a) ≡ 32
   unfolding replaced
   length-replaced = length-tabulate 32 _
 
--- what the loop leaves
-pub changed-all : {f : ℕ → ℕ} {start k end : ℕ} {old a : List ℕ} → Changed f start k old a → k ≡ end → a ≡ replaced start end f old
-unfolding replaced
-changed-all {f} {start} {k} {end} {old} {a} h all = is-tabulate 32 _ a (h .size) (λ j l. go j (decLt j start) (decLt j end))
-  where
-    go : (j : ℕ) → Dec (j < start) → Dec (j < end) → at a j ≡ cond (leb start j && ltb j end) (f j) (at old j)
-    go j (yes s) e = h .before j s ∙ sym (simp (lt-leb _ _ s))
-    go j (no s) (yes e) = h .done j (omega arith) (omega arith) ∙ sym (simp (le-leb start j (omega arith), lt-ltb _ _ e))
-    go j (no s) (no e) = h .rest j (omega arith) ∙ sym (simp (le-leb start j (omega arith), le-ltb j end (omega arith)))
+-- What the loop knows at k: it has stored f's values below k, and from there on the array is as it was.
+pub record Changing (start end : ℕ) (f : ℕ → ℕ) (old : List ℕ) (k : ℕ) (a : List ℕ) : Type 0 where
+  pub begun : start ≤ k
+  pub within : k ≤ end
+  pub filled : Filled 32 (replacedAt start end f old) (at old) k a
+
+pub changing-start : (start end : ℕ) (f : ℕ → ℕ) (a : List ℕ) → start ≤ end → length a ≡ 32 → Changing start end f a start a
+changing-start start end f a l size =
+    record { begun = omega arith; within = l; filled = filled-from 32 _ start a size (at-before start end f a) }
+
+module _ {start end : ℕ} {f : ℕ → ℕ} {old : List ℕ} {k : ℕ} {a : List ℕ} (c : Changing start end f old k a) where
+  -- the entry that is next
+  pub changing-same : at a k ≡ at old k
+  changing-same = c .filled .rest k (omega arith)
+
+  pub changing-next : (v : ℕ) → k < end → end ≤ 32 → v ≡ f k → Changing start end f old (k + 1) (set a k v)
+  changing-next v l few e = record {
+    begun = omega arith;
+    within = omega arith;
+    filled = filled-more (c .filled) v (omega arith) (e ∙ sym (at-inside start end f old k (c .begun) l));
+  }
+
+  -- what the loop leaves
+  pub changing-end : end ≤ k → a ≡ replaced start end f old
+  unfolding replaced
+  changing-end l = filled-all (c .filled) (λ j h. at-behind start end f old j (omega arith) (omega arith))
 
 -- an array of 32 equal numbers
 pub splat : (x k : ℕ) → k < 32 → at (replicate 32 x) k ≡ x
@@ -80,6 +86,10 @@ module _ {ps : List ℕ} (m : Moduli ps) (k : ℕ) (l : k < 32) where
 
   pub splat-most : {x : ℕ} → x ≤ modulusAt ps → at (replicate 32 x) k ≤ at ps k
   splat-most {x} h = rw (splat x k l, m .each k l) h
+
+  -- the entry that is next is a residue
+  pub next-below : {start end : ℕ} {f : ℕ → ℕ} {old a : List ℕ} → Residues ps old → Changing start end f old k a → at a k < at ps k
+  next-below r c = rw (changing-same c) (below-lane (r .below k))
 
 -- a reduction is a residue
 pub reduced-below : (p form low a : ℕ) {r : ℕ} → 0 < p → r ≡ reducedOf p form low a → r < p

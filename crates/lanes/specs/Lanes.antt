@@ -10,7 +10,8 @@ use Rattle.field.specs.Primes.{modulusOf}
 use Rattle.montgomery.specs.declared.Factor.{Factor}
 use Rattle.montgomery.specs.Factors.{inverseOf}
 use Rattle.reduction.specs.Reduction.{reducedOf}
-use Rattle.poly.specs.Coefficients.{at, tabulate}
+use Rattle.lists.specs.Tabulated.{tabulate}
+use Rattle.poly.specs.Coefficients.{at}
 
 -- n rounded up to whole groups of eight
 abbrev pub groupsOf : ℕ → ℕ

@@ -14,9 +14,10 @@ use Rattle.montgomery.specs.declared.Factor.{Factor}
 use Rattle.montgomery.specs.Factors.{inverseOf, formOf, factorOf}
 use Rattle.reduction.specs.Reduction.{reducedOf}
 use Rattle.montgomery_meaning.proofs.Products.{factor-product, form-difference}
-use Rattle.poly.specs.Coefficients.{at, tabulate}
+use Rattle.lists.specs.Tabulated.{tabulate}
+use Rattle.poly.specs.Coefficients.{at}
 use Rattle.poly.specs.Operations.{combinationAt, timesLinearAt}
-use Rattle.poly.proofs.Lists.{is-tabulate, at-past}
+use Rattle.lists.proofs.Tabulated.{is-tabulate, at-past}
 use Rattle.lanes.specs.Lanes.{groupsOf, modulusAt, Constants, Inverses, Residues, replaced, combinedLane, linearLane, differenceLane, hornerLane}
 use Rattle.lanes.proofs.Changes.{splat, replaced-inside, replaced-before, replaced-behind, length-replaced}
 
@@ -70,10 +71,6 @@ module _ {q : Prime} {ps : List ℕ} (cs : Constants q ps) (k : ℕ) (l : k < 32
   pub combined-below : (d c : Factor) (a b : List ℕ) → combinedLane ps d a c b k < modulusAt ps
   unfolding combinedLane
   combined-below d c a b = below _
-
-  pub linear-below : (x : Factor) (a : List ℕ) → linearLane ps x a k < modulusAt ps
-  unfolding linearLane
-  linear-below x a = below _
 
   -- d a - c b
   pub combined-lane : (d c : ℕ) (a b : List ℕ) → c ≤ modulusOf q

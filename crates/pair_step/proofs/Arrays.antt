@@ -3,7 +3,6 @@ use mathlib.Core.Path.{_≡_, ap, ap₂, _∙_}
 use mathlib.Core.List.{List}
 use Prim.Native.Nat.{ℕ, _+_, _-_, _*_, _/_, _%_, _≤_, _<_}
 use native.Mathlib.Nat.{mod-lt}
-use native.Mathlib.Decide.{decLt}
 use native.Mathlib.Omega.{arith}
 use lib.ListN.{length}
 use Rattle.field.specs.declared.Prime.{Prime}
@@ -14,16 +13,17 @@ use Rattle.montgomery.specs.Factors.{formOf, factorOf}
 use Rattle.poly.specs.Coefficients.{at}
 use Rattle.poly.specs.Operations.{timesLinearAt, timesLinearOf, combinationAt, combinationOf}
 use Rattle.poly.proofs.Bounds.{times-linear-past, bounded-times-linear, combination-past, bounded-combination}
-use Rattle.poly.proofs.Lists.{bounded-mono, length-tabulate, Filled}
+use Rattle.lists.proofs.Tabulated.{length-tabulate}
+use Rattle.poly.proofs.Lists.{bounded-mono}
 use Rattle.pairs.specs.Pairs.{PairBounded}
-use Rattle.lanes.specs.Lanes.{groupsOf, modulusAt, Constants, Inverses, Residues, replaced, combinedLane, linearLane, differenceLane}
+use Rattle.lanes.specs.Lanes.{groupsOf, modulusAt, Moduli, Constants, Inverses, Residues, replaced, combinedLane, linearLane, differenceLane}
 use Rattle.lanes.proofs.Changes.{replaced-inside}
 use Rattle.lanes_meaning.proofs.Meaning.{whole, residues-replaced, combined-lane, linear-lane, combined-below, difference-lane, difference-below}
 use Rattle.evaluation.specs.Values.{Narrow}
 use Rattle.pair_step.specs.declared.Side.{Side}
 use Rattle.pair_step.specs.Held.{Holds, PairHeld, pairOf}
 
-pub holds-mono : {p n m : ℕ} {a : List ℕ} → Holds p n a → n ≤ m → Holds p m a
+holds-mono : {p n m : ℕ} {a : List ℕ} → Holds p n a → n ≤ m → Holds p m a
 holds-mono h l = record { bounded = bounded-mono (h .bounded) l; size = h .size }
 
 pub held-mono : {p n m : ℕ} {a b : List ℕ} → PairHeld p n a b → n ≤ m → PairHeld p m a b
@@ -36,14 +36,6 @@ side-is e n ex ey = ap₂ (λ (x y : ℕ). record { e = e; n = n; coefficients =
 -- coefficients have 16 bits
 pub narrow-held : (q : Prime) {n : ℕ} {a : List ℕ} → Holds (modulusOf q) n a → (k : ℕ) → at a k < 65536
 narrow-held q h k = let l = h .bounded .residues k in let s = modulus-small q in omega arith
-
--- an array that is filled with residues
-pub filled-narrow : {p k : ℕ} {f : ℕ → ℕ} {r : List ℕ} → 0 < p → Filled f k r → ((j : ℕ) → f j < p) → Narrow p r
-filled-narrow {p} {k} {f} {r} h d low = record { size = d .size; below = λ j. go j (decLt j k) }
-  where
-    go : (j : ℕ) → Dec (j < k) → at r j < p
-    go j (yes l) = rw (d .done j l) (low j)
-    go j (no l) = let z = d .rest j (omega arith) in omega arith
 
 pub bounded-held : {p n : ℕ} {a b : List ℕ} (e : ℕ) → PairHeld p n a b → PairBounded p n (pairOf a b e)
 bounded-held e h = record { left = h .left .bounded; right = h .right .bounded }
@@ -61,6 +53,11 @@ module _ {q : Prime} {ps : List ℕ} (cs : Constants q ps) where
 
   pub form-below : (e : ℕ) {x : Factor} → x ≡ factorOf q e → x .form < modulusAt ps
   form-below e {x} h = rw (ap (λ (f : Factor). f .form) h, cs .number) (mod-lt (e * 65536) (modulus-positive q))
+
+  -- what is asked for, to combine two arrays
+  pub combining : (start n x y : ℕ) {a b : List ℕ} {m c : Factor} → start ≤ n → n ≤ 32 → Residues ps a → Residues ps b → m ≡ factorOf q x → c ≡ factorOf q y
+      → (start ≤ n) × (n ≤ 32) × Moduli ps × Residues ps a × Residues ps b × (m .form < modulusAt ps) × (c .form < modulusAt ps)
+  combining start n x y low few ra rb em ec = (low, few, cs .moduli, ra, rb, form-below x em, form-below y ec)
 
   module _ {n : ℕ} {a : List ℕ} (ha : Holds (modulusOf q) n a) where
     -- (u - x) a

@@ -11,7 +11,8 @@ use Rattle.montgomery.specs.Factors.{formOf}
 use Rattle.poly.specs.Coefficients.{at}
 use Rattle.poly.specs.Operations.{timesLinearOf, combinationAt, combinationOf}
 use Rattle.poly.specs.Vectors.{onePoly, zeroPoly}
-use Rattle.poly.proofs.Lists.{at-past, bounded-zeros}
+use Rattle.lists.proofs.Tabulated.{at-past}
+use Rattle.poly.proofs.Lists.{bounded-zeros}
 use Rattle.lanes.proofs.Changes.{splat}
 use Rattle.evaluation.specs.Values.{Narrow}
 use Rattle.pairs.specs.declared.Pair.{Pair}

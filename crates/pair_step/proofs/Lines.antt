@@ -9,9 +9,11 @@ use native.Mathlib.Omega.{arith}
 use lib.Dec.{eqb}
 use borrow.Author.Tests.{eq-eqb, ne-eqb, lt-ltb, le-ltb}
 use Rattle.poly.specs.Coefficients.{at}
+use Rattle.lanes.specs.Lanes.{Constants, Inverses}
+use Rattle.evaluation.specs.Values.{Narrow}
 use Rattle.pair_step.specs.declared.Row.{Row}
 use Rattle.pair_step.specs.declared.Side.{Side}
-use Rattle.pair_step.specs.Held.{Fits, Held, longerOf, Advanced, Cleared, Stays, Freed, lineOf, Lined}
+use Rattle.pair_step.specs.Held.{PairHeld, primeAt, Fits, Held, longerOf, Advanced, Cleared, Stays, Freed, lineOf, Lined}
 use Rattle.pair_step.proofs.Arrays.{held-mono}
 use Rattle.pair_step.proofs.Following.{advanced-is, combined-is, follow-advanced, follow-cleared}
 
@@ -35,30 +37,46 @@ module _ {A : Type 0} (m c : ℕ) (leads : Bool) (stays multiplied combined : A)
   line-combined n k e = simp (ne-eqb _ _ n, ne-eqb _ _ k, e)
 
 -- the longer length, from both sides
-pub longer-least : (n l m : ℕ) → n ≤ m → l ≤ m → longerOf n l ≤ m
+longer-least : (n l m : ℕ) → n ≤ m → l ≤ m → longerOf n l ≤ m
 longer-least n l m hn hl = go (decLt n l)
   where
     go : Dec (n < l) → longerOf n l ≤ m
     go (yes h) = rw (lt-ltb _ _ h) hl
     go (no h) = rw (le-ltb n l (omega arith)) hn
 
-pub longer-left : (n l : ℕ) → n ≤ longerOf n l
-longer-left n l = go (decLt n l)
+longer-both : (n l : ℕ) → (n ≤ longerOf n l) × (l ≤ longerOf n l)
+longer-both n l = go (decLt n l)
   where
-    go : Dec (n < l) → n ≤ longerOf n l
-    go (yes h) = rw (lt-ltb _ _ h) (omega arith)
-    go (no h) = rw (le-ltb n l (omega arith)) (omega arith)
+    go : Dec (n < l) → (n ≤ longerOf n l) × (l ≤ longerOf n l)
+    go (yes h) = rw (lt-ltb _ _ h) (omega arith, omega arith)
+    go (no h) = rw (le-ltb n l (omega arith)) (omega arith, omega arith)
 
-pub longer-right : (n l : ℕ) → l ≤ longerOf n l
-longer-right n l = go (decLt n l)
-  where
-    go : Dec (n < l) → l ≤ longerOf n l
-    go (yes h) = rw (lt-ltb _ _ h) (omega arith)
-    go (no h) = rw (le-ltb n l (omega arith)) (omega arith)
+-- one of the pairs before a row
+pub record Ready (r : Row) (u : Side) (a b d : List ℕ) : Type 0 where
+  pub held : Held r u a b d
+  pub low : u .n ≤ r .index + 1
+  pub small : u .e < 64
 
--- of two pairs before a row
-pub longer-short : {r : Row} → Fits r → {m n l : ℕ} → m ≡ longerOf n l → n ≤ r .index + 1 → l ≤ r .index + 1 → m ≤ 31
-longer-short fits {m} {n} {l} e hn hl = omega (arith, e, longer-least n l _ hn hl, fits .there, fits .few)
+-- what is asked for, to multiply (a, b) by (u - x)
+pub advancing : {r : Row} {ps vs xs : List ℕ} {u : Side} {a b d : List ℕ} → Constants (r .prime) ps → Inverses (r .prime) vs → Fits r → Narrow (primeAt r) xs → Ready r u a b d
+    → Constants (r .prime) ps × Inverses (r .prime) vs × Fits r × Narrow (primeAt r) xs × (u .e < 64) × (u .n < 32) × Held r u a b d
+advancing cs is fits forms h = (cs, is, fits, forms, h .small, omega (arith, h .low, fits .there, fits .few), h .held)
+
+-- and to free (s, t) of its discrepancy by (a, b)
+pub freeing : {r : Row} {ps : List ℕ} {u w : Side} {a b d s t e : List ℕ} {n : ℕ} → Constants (r .prime) ps → Fits r → Ready r u a b d → Ready r w s t e
+    → n ≡ longerOf (u .n) (w .n)
+    → Constants (r .prime) ps × Fits r × (n ≤ 32) × PairHeld (primeAt r) n a b × Narrow (primeAt r) d × PairHeld (primeAt r) n s t × Narrow (primeAt r) e
+freeing {u = u} {w = w} cs fits h k e =
+    let long = longer-both (u .n) (w .n) in
+    let short = longer-least (u .n) (w .n) _ (h .low) (k .low) in (
+      cs,
+      fits,
+      omega (arith, e, fits .there, fits .few),
+      held-mono (h .held .pair) (omega (arith, e)),
+      h .held .discrepancies,
+      held-mono (k .held .pair) (omega (arith, e)),
+      k .held .discrepancies,
+    )
 
 -- the length may be given by an equal number
 pub freed-longer : {r : Row} {n m : ℕ} {ps a b d s t e s′ t′ e′ : List ℕ} {u u′ : Side} → n ≡ m → Freed r ps n a b d u s t e u′ s′ t′ e′
@@ -66,16 +84,16 @@ pub freed-longer : {r : Row} {n m : ℕ} {ps a b d s t e s′ t′ e′ : List �
 freed-longer h k = rw h at k
 
 -- one of the pairs, (a, b), beside the other, (s, t)
-module _ {r : Row} (fits : Fits r) {ps vs xs : List ℕ} {u w : Side} {a b d s t e : List ℕ} (h : Held r u a b d) (k : Held r w s t e)
-    (low : u .n ≤ r .index + 1) (other : w .n ≤ r .index + 1) (leads : Bool) {u′ : Side} {a′ b′ d′ : List ℕ} where
+module _ {r : Row} (fits : Fits r) {ps vs xs : List ℕ} {u w : Side} {a b d s t e : List ℕ} (h : Ready r u a b d) (k : Ready r w s t e)
+    (leads : Bool) {u′ : Side} {a′ b′ d′ : List ℕ} where
   -- it has no discrepancy
   pub stays : at d (r .index) ≡ 0 → Stays u a b d u′ a′ b′ d′ → Lined r ps vs xs leads u a b d w s t e u′ a′ b′ d′
   stays z i = rw (i .left, i .right, i .side, i .exact) (record {
     pair = line-stays _ _ _ _ _ _ z;
     side = line-stays _ _ _ _ _ _ z;
     exact = line-stays _ _ _ _ _ _ z;
-    held = record { pair = h .pair; discrepancies = h .discrepancies };
-    low = omega (arith, low);
+    held = record { pair = h .held .pair; discrepancies = h .held .discrepancies };
+    low = omega (arith, h .low);
     followed = λ l y z i g form own beside. own;
   })
 
@@ -83,21 +101,22 @@ module _ {r : Row} (fits : Fits r) {ps vs xs : List ℕ} {u w : Side} {a b d s t
   pub advances : (at d (r .index) ≡ 0 → ⊥) → (at e (r .index) ≡ 0) ⊎ (leads ≡ true) → Advanced r ps vs xs u a b d u′ a′ b′ d′
       → Lined r ps vs xs leads u a b d w s t e u′ a′ b′ d′
   advances n c i =
-      let short : u .n ≤ 31 = omega (arith, low, fits .there, fits .few) in
+      let short : u .n ≤ 31 = omega (arith, h .low, fits .there, fits .few) in
       rw (i .side) (record {
         pair = advanced-is _ _ _ _ _ (i .left) (i .right) ∙ line-multiplied _ _ _ _ _ _ n c;
         side = line-multiplied _ _ _ _ _ _ n c;
         exact = i .exact ∙ line-multiplied _ _ _ _ _ _ n c;
         held = i .held;
-        low = omega (arith, low);
-        followed = λ l y z j g form own beside. follow-advanced i short (h .pair) _ l y z j g form own;
+        low = omega (arith, h .low);
+        followed = λ l y z j g form own beside. follow-advanced i short (h .held .pair) _ l y z j g form own;
       })
 
   -- both have one, and the other leads
   pub clears : (at d (r .index) ≡ 0 → ⊥) → (at e (r .index) ≡ 0 → ⊥) → leads ≡ false
       → Cleared r ps (longerOf (w .n) (u .n)) s t e u a b d u′ a′ b′ d′ → Lined r ps vs xs leads u a b d w s t e u′ a′ b′ d′
   clears n c f i =
-      let most = longer-least (w .n) (u .n) _ other low in
+      let most = longer-least (w .n) (u .n) _ (k .low) (h .low) in
+      let long = longer-both (w .n) (u .n) in
       let short : longerOf (w .n) (u .n) ≤ 31 = omega (arith, most, fits .there, fits .few) in
       rw (i .side) (record {
         pair = combined-is _ _ _ _ _ _ _ _ _ (i .left) (i .right) ∙ line-combined _ _ _ _ _ _ n c f;
@@ -106,15 +125,14 @@ module _ {r : Row} (fits : Fits r) {ps vs xs : List ℕ} {u w : Side} {a b d s t
         held = i .held;
         low = omega (arith, most);
         followed = λ l y z j g form own beside.
-            follow-cleared i short (held-mono (k .pair) (longer-left _ _)) (held-mono (h .pair) (longer-right _ _)) _ _ l y z j g beside own;
+            follow-cleared i short (held-mono (k .held .pair) (long .0)) (held-mono (h .held .pair) (long .1)) _ _ l y z j g beside own;
       })
 
 -- both, where (a, b) leads
 pub exchanged : {r : Row} → Fits r → {ps vs xs : List ℕ} {u w u′ w′ : Side} {a b d s t e a′ b′ d′ s′ t′ e′ : List ℕ}
-    → Held r u a b d → Held r w s t e → u .n ≤ r .index + 1 → w .n ≤ r .index + 1 → (leads follows : Bool)
+    → Ready r u a b d → Ready r w s t e → (leads follows : Bool)
     → (at d (r .index) ≡ 0 → ⊥) → ((at e (r .index) ≡ 0 → ⊥) → (leads ≡ true) × (follows ≡ false))
     → Advanced r ps vs xs u a b d u′ a′ b′ d′ → Freed r ps (longerOf (u .n) (w .n)) a b d w s t e w′ s′ t′ e′
     → Lined r ps vs xs leads u a b d w s t e u′ a′ b′ d′ × Lined r ps vs xs follows w s t e u a b d w′ s′ t′ e′
-exchanged fits h k low other leads follows n c i (inl (z, f)) = (advances fits h k low other leads n (inl z) i, stays fits k h other low follows z f)
-exchanged fits h k low other leads follows n c i (inr (m, f)) =
-    (advances fits h k low other leads n (inr (c m .0)) i, clears fits k h other low follows m n (c m .1) f)
+exchanged fits h k leads follows n c i (inl (z, f)) = (advances fits h k leads n (inl z) i, stays fits k h follows z f)
+exchanged fits h k leads follows n c i (inr (m, f)) = (advances fits h k leads n (inr (c m .0)) i, clears fits k h follows m n (c m .1) f)

@@ -7,7 +7,7 @@ use lib.ListN.{replicate}
 use Rattle.poly.specs.Vectors.{onePoly, zeroPoly}
 use Rattle.poly.specs.Operations.{valueOf}
 use Rattle.poly.proofs.Linear.{linear-step, factor-step, value-combination, value-times-linear}
-use Rattle.poly.proofs.Lists.{at-zeros}
+use Rattle.lists.proofs.Tabulated.{at-zeros}
 use Rattle.poly.proofs.Values.{value-zeros}
 use Rattle.pairs.specs.declared.Pair.{Pair}
 use Rattle.pairs.specs.Pairs.{PairShort, discrepancyOf, advancedOf, combinedOf, startOf}

@@ -11,7 +11,8 @@ use borrow.Author.Tests.{eq-eqb, ne-eqb, le-leb, lt-leb}
 use Rattle.poly.specs.declared.Poly.{Poly}
 use Rattle.poly.specs.Coefficients.{at, Bounded}
 use Rattle.poly.specs.Vectors.{onePoly, zeroPoly}
-use Rattle.poly.proofs.Lists.{at-zeros, bounded-mono, bounded-zeros}
+use Rattle.lists.proofs.Tabulated.{at-zeros}
+use Rattle.poly.proofs.Lists.{bounded-mono, bounded-zeros}
 use Rattle.pairs.specs.declared.Pair.{Pair}
 use Rattle.pairs.specs.Pairs.{Pairs, PairBounded, PairsBounded, advancedOf, combinedOf, stepBy, startOf, pairsStep, pairsAfter, discrepancyOf, smallerOf}
 

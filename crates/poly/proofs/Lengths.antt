@@ -8,14 +8,14 @@ use borrow.Author.Tests.{eq-eqb, ne-eqb}
 use lib.ListN.{length}
 use Rattle.poly.specs.Coefficients.{at, Bounded}
 use Rattle.poly.specs.Operations.{lengthBelow, lengthOf}
-use Rattle.poly.proofs.Lists.{at-past}
+use Rattle.lists.proofs.Tabulated.{at-past}
 
 -- where the topmost of the first n + 1 coefficients is 0, and where it is not
-pub length-lower : (a : List ℕ) (n : ℕ) → at a n ≡ 0 → lengthBelow a (suc n) ≡ lengthBelow a n
+length-lower : (a : List ℕ) (n : ℕ) → at a n ≡ 0 → lengthBelow a (suc n) ≡ lengthBelow a n
 unfolding lengthBelow
 length-lower a n e = simp (eq-eqb _ _ e)
 
-pub length-here : (a : List ℕ) (n : ℕ) → (at a n ≡ 0 → ⊥) → lengthBelow a (suc n) ≡ suc n
+length-here : (a : List ℕ) (n : ℕ) → (at a n ≡ 0 → ⊥) → lengthBelow a (suc n) ≡ suc n
 unfolding lengthBelow
 length-here a n e = simp (ne-eqb _ _ e)
 
@@ -33,7 +33,7 @@ unfolding lengthBelow
 length-none a = refl
 
 -- zeros on top do not count
-pub length-start : (a : List ℕ) (n m : ℕ) → ((k : ℕ) → n ≤ k → at a k ≡ 0) → n ≤ m → lengthBelow a m ≡ lengthBelow a n
+length-start : (a : List ℕ) (n m : ℕ) → ((k : ℕ) → n ≤ k → at a k ≡ 0) → n ≤ m → lengthBelow a m ≡ lengthBelow a n
 length-start a n zero h l = ap (lengthBelow a) (omega arith)
 length-start a n (suc m) h l = go (ℕ-discrete n (suc m)) (length-start a n m h)
   where

@@ -5,7 +5,8 @@ use Prim.Native.Nat.{ℕ, zero, suc, _+_, _-_, _*_, _/_, _%_, _≤_}
 use native.Mathlib.Nat.{add-zero, div-add-mod', mod-add-mod, one-mul, zero-mul}
 use native.Mathlib.Omega.{arith}
 use Rattle.field.proofs.Remainders.{same-remainder}
-use Rattle.poly.specs.Coefficients.{at, tabulate}
+use Rattle.lists.specs.Tabulated.{tabulate}
+use Rattle.poly.specs.Coefficients.{at}
 use Rattle.poly.specs.Operations.{valueOf, combinationAt, combinationOf, timesLinearAt, timesLinearOf}
 use Rattle.poly.proofs.Bounds.{zero-remainder}
 use Rattle.poly.proofs.Values.{value-zeros}

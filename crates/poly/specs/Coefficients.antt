@@ -1,17 +1,12 @@
 -- Polynomials modulo p as lists of coefficients, from the constant term upward.
 use mathlib.Core.Path.{_≡_}
-use mathlib.Core.List.{List, [], _∷_}
-use Prim.Native.Nat.{ℕ, zero, suc, _≤_, _<_}
+use mathlib.Core.List.{List}
+use Prim.Native.Nat.{ℕ, _≤_, _<_}
 use lib.ListN.{getD}
 
 -- the coefficient of u^k; 0 past the end of the list
 abbrev pub at : List ℕ → ℕ → ℕ
 at a k = getD a k 0
-
--- the list f 0, .., f (n - 1)
-unfoldable pub tabulate : ℕ → (ℕ → ℕ) → List ℕ
-tabulate zero f = []
-tabulate (suc n) f = f zero ∷ tabulate n (λ k. f (suc k))
 
 -- coefficients below p, and zero from n on: a polynomial modulo p of degree below n
 pub record Bounded (p n : ℕ) (a : List ℕ) : Type 0 where

@@ -5,16 +5,16 @@ use Prim.Native.Nat.{ℕ, zero, suc, _+_, _-_, _*_, _%_, _≤_, _<_}
 use native.Mathlib.Nat.{mod-mod, mod-eq-of-lt, zero-add, zero-mod}
 use native.Mathlib.Omega.{arith}
 use lib.ListN.{length, replicate}
-use lib.Seq.{ext-getD}
 use Rattle.algebra.proofs.Ring.{Ring, add-comm, neg-mul}
 use Rattle.algebra.proofs.Series.{Series, addS, negS, nullS, constS, scaleS, mulS, constS-zero, constS-suc}
 use Rattle.algebra.proofs.Bounds.{Below}
 use Rattle.algebra.proofs.Value.{value, value-stable, linear, linear-mul-zero, linear-mul-suc}
 use Rattle.field.proofs.Primality.{IsPrime}
 use Rattle.reciprocal.proofs.PrimeField.{Residue, residue, residue-equal, equal-residue, addR, mulR, negR, residue-add, residue-mul, residue-neg, residueRing}
-use Rattle.poly.specs.Coefficients.{at, tabulate, Bounded}
+use Rattle.lists.specs.Tabulated.{tabulate}
+use Rattle.poly.specs.Coefficients.{at, Bounded}
 use Rattle.poly.specs.Operations.{valueOf, combinationAt, combinationOf, timesLinearAt, timesLinearOf, scaledAt, scaledOf}
-use Rattle.poly.proofs.Lists.{at-tabulate-all, at-past, at-zeros}
+use Rattle.lists.proofs.Tabulated.{at-tabulate-all, at-past, at-zeros}
 use Rattle.poly.proofs.Bounds.{combination-past, times-linear-past, scaled-past}
 
 module _ (p : ℕ) (P : IsPrime p) where
@@ -44,13 +44,6 @@ module _ (p : ℕ) (P : IsPrime p) where
   pub series-below-length : (a : List ℕ) → Below (residueRing p P) (series a) (length a)
   unfolding series
   series-below-length a k l = ap ρ (at-past a k l)
-
-  -- lists of one length are equal where their polynomials are
-  pub series-injective : {n m : ℕ} {a b : List ℕ} → Bounded p n a → Bounded p m b → length a ≡ length b → series a ≡ series b → a ≡ b
-  unfolding series
-  series-injective {a = a} {b = b} ba bb size e =
-      ext-getD 0 a b size
-      (λ k l. sym (mod-eq-of-lt (ba .residues k)) ∙ equal-residue p P _ _ (ap (λ f. f k) e) ∙ mod-eq-of-lt (bb .residues k))
 
   pub zeros-means : (n : ℕ) → series (replicate n 0) ≡ nullS (residueRing p P)
   unfolding series nullS

@@ -9,7 +9,8 @@ use native.Mathlib.Omega.{arith}
 use lib.ListN.{length}
 use Rattle.poly.specs.Coefficients.{at, Bounded}
 use Rattle.poly.specs.Operations.{sumBelow, productAt, productOf}
-use Rattle.poly.proofs.Lists.{is-tabulate, bounded-tabulate}
+use Rattle.lists.proofs.Tabulated.{is-tabulate}
+use Rattle.poly.proofs.Lists.{bounded-tabulate}
 use Rattle.poly.proofs.Bounds.{zero-remainder}
 
 -- sums
@@ -26,7 +27,7 @@ sum-zeros (suc n) f h =
     omega arith
 
 -- zeros at the end add nothing
-pub sum-end : (n m : ℕ) (f : ℕ → ℕ) → n ≤ m → ((k : ℕ) → n ≤ k → k < m → f k ≡ 0) → sumBelow m f ≡ sumBelow n f
+sum-end : (n m : ℕ) (f : ℕ → ℕ) → n ≤ m → ((k : ℕ) → n ≤ k → k < m → f k ≡ 0) → sumBelow m f ≡ sumBelow n f
 unfolding sumBelow
 sum-end n zero f l h = ap (λ (t : ℕ). sumBelow t f) (let e : 0 ≡ n = omega arith in e)
 sum-end n (suc m) f l h = go (ℕ-discrete n (suc m)) (sum-end n m f)
@@ -38,7 +39,7 @@ sum-end n (suc m) f l h = go (ℕ-discrete n (suc m)) (sum-end n m f)
         let top = h m (omega arith) (omega arith) in
         omega arith
 
-pub sum-at-most : (n s : ℕ) (f : ℕ → ℕ) → ((k : ℕ) → f k ≤ s) → sumBelow n f ≤ n * s
+sum-at-most : (n s : ℕ) (f : ℕ → ℕ) → ((k : ℕ) → f k ≤ s) → sumBelow n f ≤ n * s
 unfolding sumBelow
 sum-at-most zero s f h = omega arith
 sum-at-most (suc n) s f h = let lower = sum-at-most n s f h in let top = h n in omega arith

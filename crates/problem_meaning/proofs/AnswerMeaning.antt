@@ -8,6 +8,7 @@ use native.Mathlib.Decide.{decLt}
 use native.Mathlib.Omega.{arith}
 use lib.Dec.{ltb}
 use borrow.Author.Tests.{le-ltb}
+use Rattle.lists.proofs.Truth.{clash}
 use Rattle.algebra.proofs.Series.{Series}
 use Rattle.algebra.proofs.Value.{value}
 use Rattle.method.proofs.Vectors.{ReducedVector}
@@ -16,7 +17,7 @@ use Rattle.reciprocal.proofs.PrimeField.{Residue, residue, residue-mul, equal-r
 use Rattle.format.specs.Bounds.{primeOf, numeratorBoundOf, Sized}
 use Rattle.poly.specs.Coefficients.{at}
 use Rattle.poly.specs.Operations.{valueOf}
-use Rattle.poly.proofs.Lists.{at-past, at-tabulate, length-tabulate}
+use Rattle.lists.proofs.Tabulated.{at-past, at-tabulate, length-tabulate}
 use Rattle.poly.proofs.Values.{value-below}
 use Rattle.poly_meaning.proofs.Series.{series-at, series-below, residue-mod, residue-zero, value-means-bounded}
 use Rattle.header.specs.Header.{boundsOf}
@@ -125,7 +126,7 @@ module _ (s : List ℕ) {area : ℕ} (W : WellFormedFacts s area) where
             omega arith
         by true e same =
             let wrong = wrongCount-wrong (F (boundsOf s)) 32 (boundsOf s .outputs) fs gs row r
-            (λ ok. let right = means-right r l ok in let clash : true ≡ false = sym e ∙ right in let z : _≡_ {A = ℕ} 0 1 = cc in omega arith) in
+            (λ ok. clash (sym e ∙ means-right r l ok)) in
             omega arith
 
   -- a reduced vector within the bounds, and an answer

@@ -7,7 +7,7 @@ use Rattle.algebra.proofs.Series.{Series, mulS}
 use Rattle.algebra.proofs.Bounds.{Polynomial}
 use Rattle.field.proofs.Primality.{IsPrime}
 use Rattle.reciprocal.proofs.PrimeField.{residue, residue-number, residue-equal, equal-residue, residueRing}
-use Rattle.poly.specs.Coefficients.{tabulate}
+use Rattle.lists.specs.Tabulated.{tabulate}
 use Rattle.poly_meaning.proofs.Series.{series, series-at, series-below-length, tabulate-means}
 use Rattle.poly_meaning.proofs.Products.{productAt-means}
 use Rattle.problem.specs.Reduced.{Divides}

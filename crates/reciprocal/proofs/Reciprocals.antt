@@ -8,6 +8,7 @@ use native.Mathlib.Omega.{arith}
 use lib.Dec.{eqb}
 use borrow.Author.Tests.{eq-eqb, ne-eqb, eqb-true}
 use Rattle.reciprocal.specs.Reciprocals.{leastFrom, reciprocalOf}
+use Rattle.lists.proofs.Truth.{clash}
 use Rattle.field.proofs.Remainders.{mod-mul, mul-mod}
 use Rattle.field.proofs.Primality.{IsPrime}
 
@@ -26,8 +27,7 @@ least-is test m r l pass only (suc n) k e u = go (test k) refl (least-is test m 
         above (yes h) = h
         above (no h) =
             let same : r ≡ k = omega arith in
-            let clash : true ≡ false = sym pass ∙ ap test same ∙ t in
-            let z : _≡_ {A = ℕ} 0 1 = cc in omega arith
+            clash (sym pass ∙ ap test same ∙ t)
 
 -- a test that nothing passes finds 0
 least-none : (test : ℕ → Bool) → ((s : ℕ) → test s ≡ false) → (n k : ℕ) → 0 ≡ leastFrom n k test

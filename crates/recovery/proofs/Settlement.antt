@@ -5,6 +5,7 @@ use mathlib.Core.Bool.{Bool, true, false}
 use mathlib.Core.List.{List}
 use Prim.Native.Nat.{ℕ, _≤_, _<_}
 use native.Mathlib.Omega.{arith}
+use Rattle.lists.proofs.Truth.{clash}
 use Rattle.method.proofs.Problem.{None}
 use Rattle.method.proofs.LastTest.{candidate-is-answer, none-if-many-wrong}
 use Rattle.header.specs.Header.{boundsOf}
@@ -18,10 +19,6 @@ use Rattle.problem_meaning.proofs.Tables.{F, problem}
 use Rattle.problem_meaning.proofs.AnswerMeaning.{points-below, usable, answer-means, means-answer, count-means}
 use Rattle.soundness.proofs.Candidates.{Good, Verdict}
 use Rattle.soundness.proofs.Verdicts.{verdict}
-
--- a truth value is not both
-pub clash : {A : Type 0} {t : Bool} → t ≡ true → t ≡ false → A
-clash e e' = absurd (let z : _≡_ {A = ℕ} 0 1 = cc in omega arith)
 
 module _ (s : List ℕ) {area : ℕ} (W : WellFormedFacts s area) where
   pub table : Table (boundsOf s) (jobPoints s)
@@ -48,7 +45,7 @@ module _ (s : List ℕ) {area : ℕ} (W : WellFormedFacts s area) where
   unsolvable-early e = by (verdict (boundsOf s) (jobPoints s) (jobValues s) (usable s W) (boundsOf s .outputs) (omega arith))
     where
       by : Verdict (boundsOf s) (jobPoints s) (jobValues s) (usable s W) (boundsOf s .outputs) last → Unsolvable s
-      by (inl G) = clash (G .0) e
+      by (inl G) = clash (sym (G .0) ∙ e)
       by (inr none) = none-unsolvable (none .1)
 
   -- a candidate with few wrong rows is the answer
@@ -60,7 +57,7 @@ module _ (s : List ℕ) {area : ℕ} (W : WellFormedFacts s area) where
           let within = good-within (G .1) in
           let count = count-means s W within (boundsOf s .rows) (omega arith) in
           means-answer s W within (candidate-is-answer (F (boundsOf s)) 32 _ (G .1 .candidate) (omega arith))
-      by (inr none) = clash e (none .0)
+      by (inr none) = clash (sym e ∙ none .0)
 
   -- a candidate with too many wrong rows: there is no answer
   pub unsolvable-late : last .solvable ≡ true → boundsOf s .errors < wrongCount s numerators denominator → Unsolvable s
@@ -70,4 +67,4 @@ module _ (s : List ℕ) {area : ℕ} (W : WellFormedFacts s area) where
       by (inl G) =
           let count = count-means s W (good-within (G .1)) (boundsOf s .rows) (omega arith) in
           none-unsolvable (none-if-many-wrong (F (boundsOf s)) 32 _ (G .1 .candidate) (omega arith))
-      by (inr none) = clash e (none .0)
+      by (inr none) = clash (sym e ∙ none .0)

@@ -7,6 +7,7 @@ use Prim.Native.Nat.{ℕ, _+_, _*_, _≤_, _<_}
 use native.Mathlib.Decide.{decLt}
 use native.Mathlib.Omega.{arith}
 use lib.ListN.{length, getD}
+use Rattle.lists.proofs.Truth.{clash}
 use Rattle.format.specs.declared.Outcome.{Outcome}
 use Rattle.format.specs.declared.Outcome.the-variants.{Accepted, Recovered, Refused}
 use Rattle.format.specs.declared.Report.{Report}
@@ -33,7 +34,7 @@ use Rattle.problem_meaning.proofs.OnlyOne.{at-most-one}
 use Rattle.solver.specs.declared.Solution.{Solution}
 use Rattle.recovery.specs.Recovery.{RefusedEarly, Answered, RefusedUnsolvable, Settled}
 use Rattle.solver.specs.Solutions.{unsolvedSolution, wordBy, solutionFor}
-use Rattle.recovery.proofs.Settlement.{clash, last, numerators, denominator, unsolvable-early, unsolvable-late, solved}
+use Rattle.recovery.proofs.Settlement.{last, numerators, denominator, unsolvable-early, unsolvable-late, solved}
 use Rattle.solver.proofs.SolutionLaws.{judged-unsolvable, judged-solvable, counted-many, counted-few}
 
 -- the reader's outcome is that of the tests
@@ -139,7 +140,7 @@ module _ (s area : List ℕ) where
         where
           by : Cases t → Settled s area (refusedReport 8 0) area
           by (inl u) = settled (inr (inr (record { well-formed = wf; none = u .1; report = refl; untouched = refl })))
-          by (inr a) = clash (ap (λ r. r .solvable) (a .1)) unsolved
+          by (inr a) = clash (sym (ap (λ r. r .solvable) (a .1)) ∙ unsolved)
 
       pub settle-solved : t .solvable ≡ true → (bytes : ℕ) → bytes ≡ answerLengthOf (boundsOf s) → (after : List ℕ)
           → after ≡ overwritten (answerBytes (boundsOf s) (t .word) (t .g .c) (coefficientsAt (t .f))) area
@@ -147,7 +148,7 @@ module _ (s area : List ℕ) where
       settle-solved recovered bytes length-is after written = by (subst Cases (sym e) cases)
         where
           by : Cases t → Settled s area (recoveredReport bytes (t .wrong)) after
-          by (inl u) = clash recovered (u .0)
+          by (inl u) = clash (sym recovered ∙ u .0)
           by (inr a) = settled (inr (inl (record {
             well-formed = wf;
             f = f;

@@ -1,17 +1,18 @@
 -- Laws of the first number below a bound that passes a test.
-use mathlib.Core.Bool.{Bool, true, false, true≢false}
+use mathlib.Core.Bool.{Bool, true, false}
 use mathlib.Core.Logic.{⊎-elim}
 use mathlib.Core.Path.{_≡_, refl, sym, ap, ap₂, subst}
-use Prim.Native.Nat.{ℕ, zero, suc, _+_, _<_}
+use Prim.Native.Nat.{ℕ, zero, suc, _+_, _≤_, _<_}
 use native.Mathlib.Nat.{not-suc-le-zero, le-of-suc-le-suc, eq-or-lt-of-le}
 use native.Mathlib.Numerals.{add-one}
 use native.Mathlib.Omega.{arith}
+use Rattle.lists.proofs.Truth.{clash}
 use Rattle.row_search.specs.declared.Found.{Found}
 use Rattle.row_search.specs.declared.Found.the-variants.{At, Nothing}
 use Rattle.row_search.specs.Search.{firstBelow, anyBelow, orElse, ifHolds, isFound}
 
 pub at-not-nothing : {i : ℕ} → At i ≡ Nothing → ⊥
-at-not-nothing {i} e = let z : _≡_ {A = ℕ} 0 1 = cc in omega arith
+at-not-nothing e = clash cc
 
 nothing-both : (f : Found) (b : Bool) (n : ℕ) → orElse f (ifHolds b n) ≡ Nothing → (f ≡ Nothing) × (b ≡ false)
 nothing-both (At i) b n e = absurd (at-not-nothing e)
@@ -19,17 +20,17 @@ nothing-both Nothing true n e = absurd (at-not-nothing e)
 nothing-both Nothing false n e = (refl, refl)
 
 not-found : (f : Found) → isFound f ≡ false → f ≡ Nothing
-not-found (At i) e = absurd (true≢false e)
+not-found (At i) e = clash e
 not-found Nothing e = refl
 
-module _ (test : ℕ → Bool) where
-  -- a bound that passes no test leaves the search without a find
-  pub none-more : (n : ℕ) → firstBelow n test ≡ Nothing → test n ≡ false → firstBelow (n + 1) test ≡ Nothing
-  unfolding firstBelow
-  none-more n before here = rw (add-one n, before, here) refl
+-- What a search among the numbers below n knows at m: none below m passes the test.
+pub record Searching (test : ℕ → Bool) (n m : ℕ) : Type 0 where
+  pub within : m ≤ n
+  pub none : firstBelow m test ≡ Nothing
 
+module _ (test : ℕ → Bool) where
   -- what a search finds first, a longer one finds too
-  pub first-at : (m n : ℕ) → firstBelow m test ≡ Nothing → test m ≡ true → m < n → firstBelow n test ≡ At m
+  first-at : (m n : ℕ) → firstBelow m test ≡ Nothing → test m ≡ true → m < n → firstBelow n test ≡ At m
   unfolding firstBelow
   first-at m zero before here l = absurd (not-suc-le-zero l)
   first-at m (suc n) before here l =
@@ -38,15 +39,20 @@ module _ (test : ℕ → Bool) where
       (λ lt. rw (first-at m n before here lt) refl)
       (eq-or-lt-of-le (le-of-suc-le-suc l))
 
-  -- the same where only the find counts
-  pub any-at : (m n : ℕ) → firstBelow m test ≡ Nothing → test m ≡ true → m < n → true ≡ anyBelow n test
-  any-at m n before here l = ap isFound (sym (first-at m n before here l))
+  pub search-start : (n : ℕ) → Searching test n 0
+  unfolding firstBelow
+  search-start n = record { within = omega arith; none = refl }
 
-  pub first-none : (m n : ℕ) → firstBelow m test ≡ Nothing → m ≡ n → Nothing ≡ firstBelow n test
-  first-none m n before e = rw (← e, before) refl
+  module _ {n m : ℕ} (s : Searching test n m) where
+    pub search-next : m < n → test m ≡ false → Searching test n (m + 1)
+    unfolding firstBelow
+    search-next l here = record { within = omega arith; none = rw (add-one m, s .none, here) refl }
 
-  pub any-none : (m n : ℕ) → firstBelow m test ≡ Nothing → m ≡ n → false ≡ anyBelow n test
-  any-none m n before e = ap isFound (first-none m n before e)
+    pub search-found : m < n → test m ≡ true → At m ≡ firstBelow n test
+    search-found l here = sym (first-at m n (s .none) here l)
+
+    pub search-end : n ≤ m → Nothing ≡ firstBelow n test
+    search-end l = let e : m ≡ n = (let w = s .within in omega arith) in rw (← e, s .none) refl
 
   -- where nothing is found, no number passes
   pub none-passes : (n : ℕ) → firstBelow n test ≡ Nothing → (i : ℕ) → i < n → test i ≡ false

@@ -5,7 +5,7 @@ use Prim.Native.Nat.{ℕ, _+_, _*_, _/_, _%_, _<_}
 use native.Mathlib.Omega.{arith}
 use borrow.Author.Tests.{lt-ltb}
 use lib.ListN.{getD}
-use Rattle.poly.proofs.Lists.{at-tabulate}
+use Rattle.lists.proofs.Tabulated.{at-tabulate}
 use Rattle.header.specs.Header.{boundsOf}
 use Rattle.header.proofs.Fields.{narrow}
 use Rattle.rows.specs.Rows.{jobPoint, jobValue, jobPoints, jobValues}

@@ -1,4 +1,2 @@
-pub mod Order
-pub mod Tabulated
 pub mod RowPlaces
 pub mod Entries

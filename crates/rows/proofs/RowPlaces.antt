@@ -13,10 +13,10 @@ use lib.Seq.{getD-take, getD-drop}
 use Rattle.format.specs.Numbers.{numberFrom}
 use Rattle.header.specs.Header.{boundsOf}
 use Rattle.rows.specs.Rows.{numberAt, valueOrZero}
-use Rattle.rows.specs.Steps.{rowOf, rowAt}
-use Rattle.poly.proofs.Lists.{at-tabulate}
-use Rattle.rows.proofs.Tabulated.{tabulate-cong}
-use Rattle.rows.proofs.Order.{lt-or-ge}
+use Rattle.rows.specs.Steps.{rowOf, rowAt, setFour}
+use Rattle.lists.proofs.Tabulated.{at-tabulate, tabulate-cong}
+use Rattle.lists.proofs.Filling.{Filled, filled-more}
+use Rattle.lists.proofs.Order.{lt-or-ge}
 
 -- a row ends before the job does; m numbers make a row
 pub row-ends : (r rows m : ℕ) → r < rows → 3 + 2 * (r * m) + 2 * m ≤ 3 + 2 * rows * m
@@ -58,3 +58,15 @@ module _ (s : List ℕ) (r : ℕ) where
   pub row-values : (i : ℕ) → i < 4 → getD (rowAt s r .values) i 0 ≡ valueOrZero s ((r * 4 + i) / 4) ((r * 4 + i) % 4)
   unfolding rowAt
   row-values i l = at-tabulate 4 (valueOrZero s r) i l ∙ ap₂ (valueOrZero s) (omega arith) (omega arith)
+
+-- four stores
+pub fill-four : {n : ℕ} {f g : ℕ → ℕ} {k : ℕ} {r : List ℕ} → Filled n f g k r → (v : List ℕ) → k + 4 ≤ n
+    → ((i : ℕ) → i < 4 → getD v i 0 ≡ f (k + i)) → Filled n f g (k + 4) (setFour r k v)
+fill-four {f = f} {k = k} h v l same =
+    let one = filled-more h (getD v 0 0) (omega arith) (same 0 (omega arith) ∙ ap f (omega arith)) in
+    let two = filled-more one (getD v 1 0) (omega arith) (same 1 (omega arith)) in
+    let next : k + 1 + 1 ≡ k + 2 = omega arith in
+    let three = filled-more (rw next at two) (getD v 2 0) (omega arith) (same 2 (omega arith)) in
+    let last : k + 2 + 1 ≡ k + 3 = omega arith in
+    let end : k + 3 + 1 ≡ k + 4 = omega arith in
+    rw end at (filled-more (rw last at three) (getD v 3 0) (omega arith) (same 3 (omega arith)))

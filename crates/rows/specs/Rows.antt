@@ -5,7 +5,7 @@ use mathlib.Core.List.{List}
 use lib.Dec.{ltb}
 use Rattle.format.specs.Numbers.{numberFrom}
 use Rattle.header.specs.Header.{boundsOf}
-use Rattle.poly.specs.Coefficients.{tabulate}
+use Rattle.lists.specs.Tabulated.{tabulate}
 
 -- the number in row r and column c: column 0 is the point, columns 1 to n are the values
 unfoldable pub numberAt : List ℕ → ℕ → ℕ → ℕ

@@ -7,7 +7,7 @@ use lib.ListN.{getD, set}
 use Rattle.format.specs.Numbers.{numberFrom}
 use Rattle.rows.specs.declared.Row.{Row}
 use Rattle.rows.specs.Rows.{jobPoint, valueOrZero}
-use Rattle.poly.specs.Coefficients.{tabulate}
+use Rattle.lists.specs.Tabulated.{tabulate}
 
 -- one row
 unfoldable pub rowAt : List ℕ → ℕ → Row

@@ -33,7 +33,7 @@ use Rattle.reciprocal.proofs.PrimeField.{residue, residue-add, residue-mul, res
 use Rattle.poly.specs.Coefficients.{at}
 use Rattle.poly.specs.Operations.{valueOf, timesLinearOf, combinationOf}
 use Rattle.poly.specs.Vectors.{onePoly, zeroPoly}
-use Rattle.poly.proofs.Lists.{length-tabulate}
+use Rattle.lists.proofs.Tabulated.{length-tabulate}
 use Rattle.poly.proofs.Bounds.{bounded-times-linear, bounded-combination}
 use Rattle.poly_meaning.proofs.Series.{
   series,

@@ -16,7 +16,7 @@ use Rattle.reciprocal.proofs.PrimeField.{residue, residue-mul}
 use Rattle.format.specs.declared.Bounds.{Bounds}
 use Rattle.poly.specs.Coefficients.{at}
 use Rattle.poly.specs.Operations.{valueOf, lengthOf}
-use Rattle.poly.proofs.Lists.{at-tabulate}
+use Rattle.lists.proofs.Tabulated.{at-tabulate}
 use Rattle.poly_meaning.proofs.Series.{residue-mod, value-means-bounded}
 use Rattle.poly_meaning.proofs.Degrees.{length-means-null}
 use Rattle.pairs.specs.declared.Pair.{Pair}

@@ -1,4 +1,4 @@
--- A text has fewer than 1280 bytes.
+-- A text fits its draft.
 use Prim.Native.Nat.{ℕ, zero, suc, _+_, _*_, _^_, _≤_, _<_}
 use mathlib.Core.Bool.{Bool, true, false, cond}
 use mathlib.Core.List.{List, _++_}
@@ -9,14 +9,12 @@ use Rattle.format.specs.declared.Bounds.{Bounds}
 use Rattle.format.specs.Bounds.{Storable, numeratorBoundOf}
 use Rattle.answer.specs.Bytes.{numeratorStart}
 use Rattle.word.specs.Word.{marked}
+use Rattle.text.specs.Drafts.{textRoom}
 use Rattle.text.specs.Decimal.{decimalOf, itemOf}
-use Rattle.text.specs.Lines.{lineFeed, outputLabel, rowItems, coefficientFrom, degreeWithin, itemsBelow, coefficientsLine, outputLineFrom, outputLines}
-use Rattle.text.specs.Text.{recoveredLabel, wrongLabel, denominatorLabel, refusedLabel, recoveredText, refusedText}
+use Rattle.text.specs.Lines.{rowItems, coefficientFrom, degreeWithin, itemsBelow, outputLineFrom, outputLines}
+use Rattle.text.specs.Text.{recoveredText, refusedText}
 use Rattle.text.proofs.Digits.{digits-few}
 use Rattle.text.proofs.Polynomials.{degree-low}
-
-joined : (a b : List ℕ) (m n : ℕ) → length a ≤ m → length b ≤ n → length (a ++ b) ≤ m + n
-joined a b m n short-a short-b = omega (arith, length-append a b)
 
 decimal-few : (n j : ℕ) → n < 10 ^ suc j → length (decimalOf n) ≤ suc j
 decimal-few n j h = digits-few (suc n) n j h
@@ -37,10 +35,8 @@ coefficient-items c low zero = omega arith
 coefficient-items c low (suc count) =
     omega (arith, length-append (itemsBelow c count) (itemOf (c count)), coefficient-items c low count, decimal-few (c count) 4 (omega (arith, low count)))
 
-coefficients-line : (c : ℕ → ℕ) → ((k : ℕ) → c k < 65536) → (bound : ℕ) → bound < 32 → length (coefficientsLine c bound) ≤ 193
-coefficients-line c low bound h =
-    let count = degreeWithin c bound + 1 in
-    omega (arith, length-append (itemsBelow c count) lineFeed, coefficient-items c low count, degree-low c bound)
+line-items : (c : ℕ → ℕ) → ((k : ℕ) → c k < 65536) → (bound : ℕ) → bound < 32 → length (itemsBelow c (degreeWithin c bound + 1)) ≤ 192
+line-items c low bound h = omega (arith, coefficient-items c low (degreeWithin c bound + 1), degree-low c bound)
 
 -- bytes below 256 throughout
 module _ (s : List ℕ) (bytes : (k : ℕ) → getD s k 0 < 256) where
@@ -49,10 +45,9 @@ module _ (s : List ℕ) (bytes : (k : ℕ) → getD s k 0 < 256) where
 
   output-line : (i start bound : ℕ) → i < 4 → bound < 32 → length (outputLineFrom s i start bound) ≤ 195
   output-line i start bound few h =
-      let c = coefficientFrom s start in
-      joined (outputLabel ++ decimalOf (i + 1)) (coefficientsLine c bound) 2 193
-      (joined outputLabel (decimalOf (i + 1)) 1 1 (omega arith) (decimal-few (i + 1) 0 (omega arith)))
-      (coefficients-line c (coefficient-low start) bound h)
+      let number = decimal-few (i + 1) 0 (omega arith) in
+      let line = line-items (coefficientFrom s start) (coefficient-low start) bound h in
+      simp length-append (omega arith)
 
   output-lines : (b : Bounds) → Storable b → (n : ℕ) → n ≤ 4 → length (outputLines b s n) ≤ 195 * n
   unfolding outputLines
@@ -67,31 +62,17 @@ module _ (s : List ℕ) (bytes : (k : ℕ) → getD s k 0 < 256) where
         output-line i start bound (omega arith) (omega (arith, fits .numerators-low i)),
       )
 
-  pub recovered-short : (b : Bounds) → Storable b → (wrong : ℕ) → wrong < 2 ^ 32 → length (recoveredText b wrong s) < 1280
+  pub recovered-short : (b : Bounds) → Storable b → (wrong : ℕ) → wrong < 2 ^ 32 → length (recoveredText b wrong s) < textRoom
   recovered-short b fits wrong low =
-      let rows = rowItems 32 0 (marked (wordFrom s)) in
-      let line = coefficientsLine (coefficientFrom s 4) (b .dg) in
-      let outputs = outputLines b s (b .outputs) in
-      let one = joined recoveredLabel (decimalOf wrong) 10 10 (omega arith) (decimal-few wrong 9 (omega arith)) in
-      let end = joined (recoveredLabel ++ decimalOf wrong) lineFeed 20 1 one (omega arith) in
-      let two = joined (recoveredLabel ++ decimalOf wrong ++ lineFeed) wrongLabel 21 5 end (omega arith) in
-      let listed = joined (recoveredLabel ++ decimalOf wrong ++ lineFeed ++ wrongLabel) rows 26 96 two (row-items 32 0 (marked (wordFrom s)) (omega arith)) in
-      let end-two = joined (recoveredLabel ++ decimalOf wrong ++ lineFeed ++ wrongLabel ++ rows) lineFeed 122 1 listed (omega arith) in
-      let three = joined (recoveredLabel ++ decimalOf wrong ++ lineFeed ++ wrongLabel ++ rows ++ lineFeed) denominatorLabel 123 1 end-two (omega arith) in
-      let end-three =
-      joined (recoveredLabel ++ decimalOf wrong ++ lineFeed ++ wrongLabel ++ rows ++ lineFeed ++ denominatorLabel) line 124 193 three
-      (coefficients-line (coefficientFrom s 4) (coefficient-low 4) (b .dg) (omega (arith, fits .denominator-low))) in
-      omega (
-        arith,
-        length-append (recoveredLabel ++ decimalOf wrong ++ lineFeed ++ wrongLabel ++ rows ++ lineFeed ++ denominatorLabel ++ line) outputs,
-        end-three,
-        output-lines b fits (b .outputs) (fits .few),
-        fits .few,
-      )
+      let count = decimal-few wrong 9 (omega arith) in
+      let rows = row-items 32 0 (marked (wordFrom s)) (omega arith) in
+      let line = line-items (coefficientFrom s 4) (coefficient-low 4) (b .dg) (omega (arith, fits .denominator-low)) in
+      let outputs = output-lines b fits (b .outputs) (fits .few) in
+      let few = fits .few in
+      simp length-append (omega arith)
 
-pub refused-short : (number row : ℕ) → number < 2 ^ 32 → row < 2 ^ 32 → length (refusedText number row) < 1280
+pub refused-short : (number row : ℕ) → number < 2 ^ 32 → row < 2 ^ 32 → length (refusedText number row) < textRoom
 refused-short number row low-number low-row =
-    let one = joined refusedLabel (decimalOf number) 8 10 (omega arith) (decimal-few number 9 (omega arith)) in
-    let item : length (itemOf row) ≤ 11 = omega (arith, decimal-few row 9 (omega arith)) in
-    let two = joined (refusedLabel ++ decimalOf number) (itemOf row) 18 11 one item in
-    omega (arith, length-append (refusedLabel ++ decimalOf number ++ itemOf row) lineFeed)
+    let one = decimal-few number 9 (omega arith) in
+    let two = decimal-few row 9 (omega arith) in
+    simp length-append (omega arith)

@@ -1,10 +1,10 @@
 -- What a call that writes a text answers, by its cases.
 use Prim.Native.Nat.{ℕ, _≤_, _<_}
-use mathlib.Core.Path.{_≡_, refl, sym, ap₂, subst, _∙_}
-use mathlib.Core.Bool.{Bool, true, false, cond}
+use mathlib.Core.Path.{_≡_, ap₂, _∙_}
+use mathlib.Core.Bool.{true, false, _&&_, and-eq-true-iff}
 use mathlib.Core.List.{List}
 use native.Mathlib.Omega.{arith}
-use lib.Dec.{T, leb}
+use lib.Dec.{leb}
 use lib.ListN.{length}
 use borrow.Author.Tests.{lt-leb, le-leb, leb-true}
 use Rattle.format.specs.declared.Bounds.{Bounds}
@@ -15,26 +15,22 @@ use Rattle.text.specs.declared.Written.{Written}
 use Rattle.text.specs.declared.Written.the-variants.{Bytes, TooShort, Malformed}
 use Rattle.text.specs.Text.{textOf, isStorable, writtenOf, bufferAfter}
 
-both-true : (x y : Bool) → cond x y false ≡ true → (x ≡ true) × (y ≡ true)
-both-true true y e = (refl, e)
-both-true false y e = absurd (subst T (sym e) tt)
-
 -- what is left of the test where its first two parts hold
 pub storable-last : (b : Bounds) → b .outputs ≤ 4 → b .dg ≤ 31 → isStorable b ≡ leb (b .df) 31
 storable-last b few low =
-    ap₂ (λ x y. cond x (cond y (leb (b .df) 31) false) false) (le-leb (b .outputs) 4 few) (le-leb (b .dg) 31 low)
+    ap₂ (λ x y. x && y && leb (b .df) 31) (le-leb (b .outputs) 4 few) (le-leb (b .dg) 31 low)
 
 pub true-storable : (b : Bounds) → Storable b → isStorable b ≡ true
 true-storable b fits = storable-last b (fits .few) (fits .denominator-low) ∙ le-leb (b .df) 31 (fits .numerators-low 0)
 
 pub storable-true : (b : Bounds) → isStorable b ≡ true → Storable b
 storable-true b e =
-    let first = both-true (leb (b .outputs) 4) (cond (leb (b .dg) 31) (leb (b .df) 31) false) e in
-    let rest = both-true (leb (b .dg) 31) (leb (b .df) 31) (first .1) in
+    let all = and-eq-true-iff (leb (b .outputs) 4 && leb (b .dg) 31) (leb (b .df) 31) .0 e in
+    let first = and-eq-true-iff (leb (b .outputs) 4) (leb (b .dg) 31) .0 (all .0) in
     record {
       few = leb-true (b .outputs) 4 (first .0);
-      denominator-low = leb-true (b .dg) 31 (rest .0);
-      numerators-low = λ i. leb-true (b .df) 31 (rest .1);
+      denominator-low = leb-true (b .dg) 31 (first .1);
+      numerators-low = λ i. leb-true (b .df) 31 (all .1);
     }
 
 module _ (b : Bounds) (outcome : Outcome) (s old : List ℕ) where

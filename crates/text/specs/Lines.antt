@@ -10,6 +10,10 @@ use Rattle.format.specs.Bounds.{numeratorBoundOf}
 use Rattle.answer.specs.Bytes.{numeratorStart}
 use Rattle.text.specs.Decimal.{decimalOf, itemOf}
 
+-- the bytes of the longest answer: the word, and 32 coefficients of g and of each of four numerators
+abbrev pub longestAnswer : ℕ
+longestAnswer = 4 + 2 * 32 + 2 * (4 * 32)
+
 -- "a line feed after each line"
 abbrev pub lineFeed : List ℕ
 lineFeed = 10 ∷ []

@@ -1,6 +1,6 @@
 -- Paper 01, "The printing program": the whole text, and what a lent buffer holds after it was written.
 use Prim.Native.Nat.{ℕ}
-use mathlib.Core.Bool.{Bool, false, cond}
+use mathlib.Core.Bool.{Bool, cond, _&&_}
 use mathlib.Core.List.{List, [], _∷_, _++_}
 use lib.Dec.{leb}
 use lib.ListN.{length}
@@ -50,7 +50,7 @@ textOf b (Refused reason row) s = refusedText (numberOf reason) row
 
 -- at most 4 outputs, and degrees of at most 31, as every job has
 abbrev pub isStorable : Bounds → Bool
-isStorable b = cond (leb (b .outputs) 4) (cond (leb (b .dg) 31) (leb (b .df) 31) false) false
+isStorable b = leb (b .outputs) 4 && leb (b .dg) 31 && leb (b .df) 31
 
 -- what the call answers, where the buffer has so many bytes
 abbrev pub writtenOf : Bounds → Outcome → List ℕ → ℕ → Written

@@ -4,12 +4,15 @@ ghost use mathlib.Core.Path.{_≡_};
 ghost use mathlib.Core.List.{[], _∷_};
 ghost use lib.ListN.{length};
 ghost use Rattle.answer.specs.Bytes.{overwritten};
-ghost use Rattle.text.specs.Drafts.{held, extended, Spells};
+ghost use Rattle.text.specs.Drafts.{textRoom, held, extended, Spells};
 ghost use Rattle.text.specs.Decimal.{digitsWithin, itemOf};
+
+// Every text has fewer bytes.
+const ROOM: usize = 1280;
 
 // The first bytes are the text so far.
 pub struct Draft {
-    pub bytes: [u8; 1280],
+    pub bytes: [u8; ROOM],
     pub count: usize,
 }
 
@@ -17,7 +20,7 @@ pub fn empty() -> Draft
     ensures { λ r. ⌜ Spells r [] ⌝ }
 {
     Draft {
-        bytes: [0u8; 1280],
+        bytes: [0u8; ROOM],
         count: 0,
     }
 }
@@ -26,7 +29,7 @@ pub fn put_byte(draft: Draft, byte: u8) -> Draft
     ensures { λ r. ⌜ held r ≡ extended draft (byte ∷ []) ⌝ }
 {
     let at = draft.count;
-    if at < 1280 {
+    if at < ROOM {
         let mut bytes = draft.bytes;
         bytes[at] = byte;
         return Draft {
@@ -65,13 +68,14 @@ pub fn put_item(draft: Draft, value: u32) -> Draft
     put_decimal(put_byte(draft, 32), value)
 }
 
-// Copies the text to the buffer's start.
-pub fn copy_out(draft: Draft, buffer: &mut [u8])
-    requires { ⌜ (draft .count ≤ 1280) × (draft .count ≤ length (now buffer)) ⌝ }
-    ensures { λ _. ⌜ now (buffer .exit) ≡ overwritten (held draft) (now (buffer .entry)) ⌝ }
+// Copies the text to the buffer's start and returns how many bytes it wrote.
+pub fn copy_out(draft: Draft, buffer: &mut [u8]) -> usize
+    requires { ⌜ (draft .count ≤ textRoom) × (draft .count ≤ length (now buffer)) ⌝ }
+    ensures { λ r. ⌜ (r ≡ draft .count) × (now (buffer .exit) ≡ overwritten (held draft) (now (buffer .entry))) ⌝ }
 {
     let count = draft.count;
     for k in 0..count {
         buffer[k] = draft.bytes[k];
     }
+    count
 }

@@ -7,7 +7,7 @@ ghost use mathlib.Core.Path.{_≡_};
 ghost use mathlib.Core.Bool.{true};
 ghost use lib.ListN.{length};
 ghost use Rattle.format.specs.Bounds.{Storable};
-ghost use Rattle.text.specs.Drafts.{Spells};
+ghost use Rattle.text.specs.Drafts.{textRoom, Spells};
 ghost use Rattle.text.specs.Text.{isStorable, recoveredText, refusedText, textOf, writtenOf, bufferAfter};
 use draft::Draft;
 use draft::copy_out;
@@ -87,7 +87,7 @@ pub fn write_text(bounds: Bounds, outcome: Outcome, area: &[u8], buffer: &mut [u
     ensures { λ r.
         ⌜ (r ≡ writtenOf bounds outcome (now (area .entry)) (length (now (buffer .entry))))
         × (now (buffer .exit) ≡ bufferAfter bounds outcome (now (area .entry)) (now (buffer .entry)))
-        × (isStorable bounds ≡ true → length (textOf bounds outcome (now (area .entry))) ≤ 1280) ⌝ }
+        × (isStorable bounds ≡ true → length (textOf bounds outcome (now (area .entry))) ≤ textRoom) ⌝ }
 {
     if !storable(bounds) {
         return Written::Malformed;
@@ -97,6 +97,5 @@ pub fn write_text(bounds: Bounds, outcome: Outcome, area: &[u8], buffer: &mut [u
     if buffer.len() < count {
         return Written::TooShort;
     }
-    copy_out(text, buffer);
-    Written::Bytes(count)
+    Written::Bytes(copy_out(text, buffer))
 }

@@ -1,12 +1,12 @@
 // The lines of an answer's text, read from the area that holds its bytes.
-ghost use Prim.Native.Nat.{_-_, _^_, _≤_, _<_};
+ghost use Prim.Native.Nat.{_+_, _-_, _*_, _^_, _≤_, _<_};
 ghost use mathlib.Core.Path.{_≡_};
 ghost use lib.ListN.{getD};
 ghost use Rattle.format.specs.Numbers.{numberFrom, wordFrom};
 ghost use Rattle.format.specs.Bounds.{Storable};
 ghost use Rattle.word.specs.Word.{marked};
 ghost use Rattle.text.specs.Drafts.{held, extended};
-ghost use Rattle.text.specs.Lines.{rowItems, coefficientFrom, degreeWithin, itemsBelow, coefficientsLine, outputLineFrom, outputLines};
+ghost use Rattle.text.specs.Lines.{longestAnswer, rowItems, coefficientFrom, degreeWithin, itemsBelow, coefficientsLine, outputLineFrom, outputLines};
 use crate::draft::Draft;
 use crate::draft::put_byte;
 use crate::draft::put_decimal;
@@ -26,7 +26,7 @@ fn byte_at(area: &[u8], at: usize) -> u32
 
 // The 16-bit number from a place on.
 fn number_at(area: &[u8], at: usize) -> u32
-    requires { ⌜ at < 4096 ⌝ }
+    requires { ⌜ at + 2 ≤ longestAnswer ⌝ }
     ensures { λ r. ⌜ (r ≡ numberFrom (now (area .entry)) at) × (r < 65536) ⌝ }
 {
     byte_at(area, at) * 256 + byte_at(area, at + 1)
@@ -63,7 +63,7 @@ pub fn put_rows(draft: Draft, word: u32) -> Draft
 
 // The true degree of the polynomial whose coefficients stand from start on; 0 for the zero polynomial.
 fn degree(area: &[u8], start: usize, bound: usize) -> usize
-    requires { ⌜ (start < 2048) × (bound < 32) ⌝ }
+    requires { ⌜ (bound < 32) × (start + 2 * (bound + 1) ≤ longestAnswer) ⌝ }
     ensures { λ r. ⌜ (r ≡ degreeWithin (coefficientFrom (now (area .entry)) start) bound) × (r ≤ bound) ⌝ }
 {
     let mut d = bound;
@@ -78,7 +78,7 @@ fn degree(area: &[u8], start: usize, bound: usize) -> usize
 }
 
 fn put_coefficients(draft: Draft, area: &[u8], start: usize, count: usize) -> Draft
-    requires { ⌜ (start < 2048) × (count ≤ 32) ⌝ }
+    requires { ⌜ (count ≤ 32) × (start + 2 * count ≤ longestAnswer) ⌝ }
     ensures { λ r. ⌜ held r ≡ extended draft (itemsBelow (coefficientFrom (now (area .entry)) start) count) ⌝ }
 {
     let mut r = draft;
@@ -90,7 +90,7 @@ fn put_coefficients(draft: Draft, area: &[u8], start: usize, count: usize) -> Dr
 
 // The coefficients up to the true degree, and the line's end.
 pub fn put_polynomial(draft: Draft, area: &[u8], start: usize, bound: usize) -> Draft
-    requires { ⌜ (start < 2048) × (bound < 32) ⌝ }
+    requires { ⌜ (bound < 32) × (start + 2 * (bound + 1) ≤ longestAnswer) ⌝ }
     ensures { λ r. ⌜ held r ≡ extended draft (coefficientsLine (coefficientFrom (now (area .entry)) start) bound) ⌝ }
 {
     let top = degree(area, start, bound);
@@ -100,7 +100,7 @@ pub fn put_polynomial(draft: Draft, area: &[u8], start: usize, bound: usize) -> 
 
 // The line of output i, counted from 0.
 fn put_output(draft: Draft, area: &[u8], i: usize, start: usize, bound: usize) -> Draft
-    requires { ⌜ (i < 4) × (start < 2048) × (bound < 32) ⌝ }
+    requires { ⌜ (i < 4) × (bound < 32) × (start + 2 * (bound + 1) ≤ longestAnswer) ⌝ }
     ensures { λ r. ⌜ held r ≡ extended draft (outputLineFrom (now (area .entry)) i start bound) ⌝ }
 {
     let named = put_label(draft, b"f");

@@ -7,7 +7,7 @@ use native.Mathlib.Omega.{arith}
 use lib.Dec.{lit<, lit≤, eqb}
 use lib.Pow.{shr-shr}
 use lib.Count.{ones, leadingZeros}
-use Rattle.word.specs.Word.{flagOf, bitAt, wordOf, countBelow, firstWrong, marked, wrongCountOf, firstWrongOf}
+use Rattle.word.specs.Word.{flagOf, bitAt, wordOf, countBelow, marked, wrongCountOf, firstWrongOf}
 use Rattle.word.proofs.Words.{prefixOf, word-lt, word-top, ones-word, leading-word}
 
 -- the word's top k + 1 bits are its top k and the bit of row k
@@ -41,18 +41,6 @@ ones-marked word small = ap ones (sym (word-of-marks word small)) ∙ ones-word 
 pub leading-marked : (word : ℕ) → word < 2 ^ 32 → leadingZeros 32 word ≡ firstWrongOf word
 leading-marked word small = ap (leadingZeros 32) (sym (word-of-marks word small)) ∙ leading-word 32 (marked word) (lit≤ tt)
 
-same-top : (a b k : ℕ) → a < 2 ^ 32 → b < 2 ^ 32 → ((r : ℕ) → r < 32 → bitAt a r ≡ bitAt b r) → k ≤ 32 → a / 2 ^ (32 - k) ≡ b / 2 ^ (32 - k)
-same-top a b zero small-a small-b same h = div-eq-of-lt small-a ∙ sym (div-eq-of-lt small-b)
-same-top a b (suc k) small-a small-b same h =
-    next-bit a k h ∙ ap₂ (λ x d. x * 2 + d) (same-top a b k small-a small-b same (omega arith)) (same k h) ∙ sym (next-bit b k h)
-
--- a word is determined by its 32 bits
-pub word-determined : (a b : ℕ) → a < 2 ^ 32 → b < 2 ^ 32 → ((r : ℕ) → r < 32 → bitAt a r ≡ bitAt b r) → a ≡ b
-word-determined a b small-a small-b same = sym (div-one a) ∙ same-top a b 32 small-a small-b same (lit≤ tt) ∙ div-one b
-
--- what `wrong_count` and `first_wrong` answer for the word of n rows
+-- what `wrong_count` answers for the word of n rows
 pub count-of-word : (n : ℕ) (wrong : ℕ → Bool) → n ≤ 32 → wrongCountOf (wordOf n wrong) ≡ countBelow n wrong
 count-of-word n wrong h = sym (ones-marked (wordOf n wrong) (word-lt n wrong h)) ∙ ones-word n wrong h
-
-pub first-of-word : (n : ℕ) (wrong : ℕ → Bool) → n ≤ 32 → firstWrongOf (wordOf n wrong) ≡ firstWrong n wrong
-first-of-word n wrong h = sym (leading-marked (wordOf n wrong) (word-lt n wrong h)) ∙ leading-word n wrong h

@@ -118,7 +118,7 @@ bit-of-row n wrong r h below =
     ∙ digits-mod (prefixOf wrong r) (flag-lt (wrong r))
 
 -- "Rows that don't exist have 0"
-pub bit-of-none : (n : ℕ) (wrong : ℕ → Bool) (r : ℕ) → n ≤ r → r < 32 → bitAt (wordOf n wrong) r ≡ 0
+bit-of-none : (n : ℕ) (wrong : ℕ → Bool) (r : ℕ) → n ≤ r → r < 32 → bitAt (wordOf n wrong) r ≡ 0
 bit-of-none n wrong r above h =
     let places : 32 - n ≡ suc (r - n) + (31 - r) = omega arith in
     let head = prefixOf wrong n in

@@ -10,24 +10,26 @@ use Rattle.answer.proofs.put_coefficients.Statement.{statement}
 use Rattle.answer.proofs.put_coefficients.Tie as tie
 
 abbrev Inv-loop : tie.InvT-loop
-Inv-loop area₀ at count a k₀ area k = (k ≤ count) × (length area ≡ length area₀) × (area ≡ spliced at (coefficientBytes (a .c) k) area₀)
+Inv-loop area₀ at count a next₀ k₀ area next k =
+    (k ≤ count) × (length area ≡ length area₀) × (next ≡ at + 2 * k) × (area ≡ spliced at (coefficientBytes (a .c) k) area₀)
 
 abbrev μ-loop : tie.MeasureT-loop
-μ-loop area₀ at count a k₀ area k = count - k
+μ-loop area₀ at count a next₀ k₀ area next k = count - k
 
 loop-holds : tie.Need-loop-holds Inv-loop μ-loop
 unfolding coefficientBytes
-loop-holds c = let g = c .before .args in (search needs, refl, sym (splice-none (g .at) (g .area .now)))
+loop-holds c = let g = c .before .args in (search needs, refl, omega arith, sym (splice-none (g .at) (g .area .now)))
 
 loop-again : tie.Need-loop-again Inv-loop μ-loop
 loop-again c =
     let s = c .before .before .before .before .before .before in
     let g = s .before .before .args in
     let r = c .before .before .put-number in
-    let room : g .at + 2 * s .loop .k ≤ length (g .area .now) = omega arith in (
+    let room : s .loop .next ≤ length (g .area .now) = omega arith in (
       omega arith,
       r .kept .0 ∙ s .loop .inv .1,
-      r .ensures ∙ next-coefficient (g .at) (g .t3 .c) (s .loop .k) (g .area .now) (s .loop .area) room (s .loop .inv .2),
+      omega (arith, r .ensures .0),
+      r .ensures .1 ∙ next-coefficient (g .at) (g .t3 .c) (s .loop .k) (s .loop .next) (g .area .now) (s .loop .area) (s .loop .inv .2) room (s .loop .inv .3),
     )
 
 same-length : tie.Need-same-length Inv-loop μ-loop
@@ -38,7 +40,7 @@ returns c =
     let s = c .before in
     let g = s .before .before .args in
     let all : s .loop .k ≡ g .count = omega arith in
-    (refl, s .loop .inv .2 ∙ ap (λ k. spliced (g .at) (coefficientBytes (g .t3 .c) k) (g .area .now)) all)
+    (omega arith, s .loop .inv .3 ∙ ap (λ k. spliced (g .at) (coefficientBytes (g .t3 .c) k) (g .area .now)) all)
 
 pub put-coefficients-spec : {M : Type 1} → statement M
 put-coefficients-spec =
@@ -49,13 +51,9 @@ put-coefficients-spec =
     loop-holds
     (λ c. omega arith)
     (λ c. omega arith)
-    (λ c. omega arith)
-    (λ c. omega arith)
     (λ c κs. omega arith)
     (λ c. omega arith)
     (λ c. omega arith)
     loop-again
-    (λ c. omega arith)
-    (λ c. omega arith)
     same-length
     returns)

@@ -1,3 +1,4 @@
+use mathlib.Core.Path.{refl}
 use native.Mathlib.Numerals.{add-one}
 use native.Mathlib.Omega.{arith}
 use lib.ListN.{length-set}
@@ -11,7 +12,7 @@ slice-write-area-2 : tie.Need-slice-write-area-2
 slice-write-area-2 c = simp length-set (omega arith)
 
 returns : tie.Need-returns
-returns c = rw add-one (sets-eq (twoBytes (c .args .value)) (c .args .area .now) (c .args .at) (c .pre))
+returns c = (refl, rw add-one (sets-eq (twoBytes (c .args .value)) (c .args .area .now) (c .args .at) (c .pre)))
 
 pub put-number-spec : {M : Type 1} → statement M
 put-number-spec =
@@ -22,5 +23,6 @@ put-number-spec =
     (λ c. search needs)
     (λ c. search needs)
     slice-write-area-2
+    (λ c. search needs)
     (λ c. search needs)
     returns)

@@ -1,3 +1,4 @@
+use mathlib.Core.Path.{refl}
 use native.Mathlib.Omega.{arith}
 use lib.ListN.{length-set}
 use lib.Seq.{sets-eq}
@@ -13,7 +14,7 @@ slice-write-area-3 : tie.Need-slice-write-area-3
 slice-write-area-3 c = simp length-set (omega arith)
 
 returns : tie.Need-returns
-returns c = sets-eq (fourBytes (c .args .word)) (c .args .area .now) 0 (c .pre)
+returns c = (refl, sets-eq (fourBytes (c .args .word)) (c .args .area .now) 0 (c .pre))
 
 pub put-word-spec : {M : Type 1} → statement M
 put-word-spec =

@@ -24,10 +24,11 @@ returns c =
     let start = head .before .before .before in
     let g = start .args in
     let f = coefficientsAt (g .f) in
-    let place = run .put-coefficients .ensures .0 in (
+    let four = head .put-word .ensures .0 in
+    let place = rw four at (run .put-coefficients .ensures .0) in (
       outputs .ensures .0 ∙ ap (λ next. next + length (outputBytes (g .b) f (g .b .outputs))) place ∙ answer-end (g .b) f,
       whole-answer (g .b) (g .word) (g .g .c) f (g .area .now) (head .put-word .last .0) (run .put-coefficients .last .0) (outputs .last .0)
-          (run .put-coefficients .result) (start .pre .1) (head .put-word .ensures) (run .put-coefficients .ensures .1) place (outputs .ensures .1),
+          (run .put-coefficients .result) (start .pre .1) (head .put-word .ensures .1) (rw four at (run .put-coefficients .ensures .1)) place (outputs .ensures .1),
     )
 
 pub write-spec : {M : Type 1} → statement M

@@ -5,16 +5,16 @@ use borrow.Author.Needs.{needs}
 use Rattle.field.specs.Primes.{modulusOf}
 use Rattle.field.proofs.Moduli.{modulus-positive, residue-below}
 use Rattle.poly.specs.Coefficients.{at}
-use Rattle.poly.proofs.Lists.{Filled, filled-none, filled-more}
+use Rattle.lists.proofs.Filling.{Filled, filled-none, filled-more, filled-below}
 use Rattle.column.specs.Columns.{columnOf}
-use Rattle.column.proofs.Columns.{column-all, filled-below}
+use Rattle.column.proofs.Columns.{column-all}
 use Rattle.format.proofs.Sizes.{denominator-low}
 use Rattle.column.proofs.column.Statement.{statement}
 use Rattle.column.proofs.column.Tie as tie
 
 abbrev Inv-loop : tie.InvT-loop
 Inv-loop xs values i prime rows gs r₀ l₀ r l =
-    (l ≤ rows) × Filled (λ k. at gs k * at values (k * 4 + i) % modulusOf prime) l (r .z)
+    (l ≤ rows) × Filled 32 (λ k. at gs k * at values (k * 4 + i) % modulusOf prime) (λ k. 0) l (r .z)
 
 abbrev μ-loop : tie.MeasureT-loop
 μ-loop xs values i prime rows gs r₀ l₀ r l = rows - l
@@ -25,7 +25,7 @@ values-requires c κs =
     search needs
 
 loop-holds : tie.Need-loop-holds Inv-loop μ-loop
-loop-holds c = (omega arith, filled-none _ _ refl)
+loop-holds c = (omega arith, filled-none 32 _ _ refl)
 
 loop-again : tie.Need-loop-again Inv-loop μ-loop
 loop-again c =
@@ -41,7 +41,7 @@ returns c =
     let all : L .loop .l ≡ S .args .b .rows = omega arith in
     let stored = rw all at (L .loop .inv .1) in (
       λ points h. column-all _ _ points _ _ _ (omega arith) (A .values .ensures points h) stored,
-      filled-below _ (modulus-positive (S .args .b .prime)) (λ k. residue-below (S .args .b .prime) _) stored,
+      filled-below stored (λ k. residue-below (S .args .b .prime) _) (λ k. modulus-positive (S .args .b .prime)),
     )
 
 pub column-spec : {M : Type 1} → statement M

@@ -1,16 +1,17 @@
-use mathlib.Core.Path.{_≡_, refl, sym, ap₂, _∙_}
+use mathlib.Core.Path.{_≡_, sym, ap₂, _∙_}
 use Prim.Native.Nat.{ℕ, _+_, _-_, _*_, _%_, _≤_}
 use native.Mathlib.Omega.{arith}
 use borrow.Author.Needs.{needs}
+use Rattle.lists.proofs.Filling.{Filled, filled-from, filled-more, filled-all}
 use Rattle.field.specs.Primes.{modulusOf}
 use Rattle.poly.specs.Coefficients.{at}
 use Rattle.division.specs.Division.{cancelledAt, cancelledOf}
-use Rattle.division.proofs.Cancellation.{cancelled-below, cancelled-above, cancelled-there, Replaced, replaced-more, replaced-all}
+use Rattle.division.proofs.Cancellation.{cancelled-below, cancelled-above, cancelled-there}
 use Rattle.division.proofs.cancel.Statement.{statement}
 use Rattle.division.proofs.cancel.Tie as tie
 
 abbrev Inv-loop : tie.InvT-loop
-Inv-loop q a₀ k n lb b m j₀ a j = (j ≤ lb) × Replaced (cancelledAt (modulusOf q) k n (b .c) a₀) a₀ (n + j) a
+Inv-loop q a₀ k n lb b m j₀ a j = (j ≤ lb) × Filled 32 (cancelledAt (modulusOf q) k n (b .c) a₀) (at a₀) (n + j) a
 
 abbrev μ-loop : tie.MeasureT-loop
 μ-loop q a₀ k n lb b m j₀ a j = lb - j
@@ -18,14 +19,7 @@ abbrev μ-loop : tie.MeasureT-loop
 loop-holds : tie.Need-loop-holds Inv-loop μ-loop
 loop-holds c =
     let pre = c .before .pre in
-    let a = c .before .args .a .now in (
-      omega arith,
-      record {
-        size = pre .4;
-        done = λ i l. sym (cancelled-below _ _ (c .before .args .n) a _ i (pre .2 .residues i) (omega arith));
-        rest = λ i l. refl;
-      },
-    )
+    (omega arith, filled-from 32 _ _ _ (pre .4) (λ i l. cancelled-below _ _ _ _ _ i (pre .2 .residues i) (omega arith)))
 
 loop-again : tie.Need-loop-again Inv-loop μ-loop
 loop-again c =
@@ -37,14 +31,14 @@ loop-again c =
     ∙ ap₂ (λ (x t : ℕ). (x + (t - s .args .k) * at (s .args .t5 .c) (a .loop .j)) % modulusOf (s .args .q)) same (a .before .modulus .ensures)
     ∙ sym (cancelled-there (modulusOf (s .args .q)) (s .args .k) (s .args .n) (s .args .a .now) (s .args .t5 .c) (a .loop .j)) in
     let next : s .args .n + (a .loop .j + 1) ≡ place + 1 = omega arith in
-    (omega arith, rw next (replaced-more (a .loop .inv .1) (c .plus-product .result) (omega arith) value))
+    (omega arith, rw next (filled-more (a .loop .inv .1) (c .plus-product .result) (omega arith) value))
 
 returns : tie.Need-returns Inv-loop μ-loop
 unfolding cancelledOf
 returns c =
     let pre = c .before .before .before .pre in
     let end : c .before .loop .j ≡ c .before .before .before .args .lb = omega arith in
-    (replaced-all (c .before .loop .inv .1) (λ i l. cancelled-above _ _ _ _ _ (pre .3) i (pre .2 .residues i) (omega arith)), c .before .loop .inv .1 .size)
+    (filled-all (c .before .loop .inv .1) (λ i l. cancelled-above _ _ _ _ _ (pre .3) i (pre .2 .residues i) (omega arith)), c .before .loop .inv .1 .size)
 
 pub cancel-spec : {M : Type 1} → statement M
 cancel-spec =

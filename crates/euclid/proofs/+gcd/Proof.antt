@@ -1,12 +1,9 @@
 use mathlib.Core.Path.{_≡_, sym, _∙_}
 use lib.ListN.{length}
-use Rattle.field.specs.Primes.{modulusOf}
 use Rattle.field.proofs.Moduli.{modulus-prime}
 use Rattle.poly.specs.Operations.{lengthOf}
 use Rattle.poly.proofs.Lists.{bounded-mono}
 use Rattle.poly.proofs.Lengths.{bounded-length}
-use Rattle.division.specs.Division.{remainderOf}
-use Rattle.euclid.specs.Euclid.{gcdOf}
 use Rattle.division.proofs.Leading.{length-array, bounded-stored}
 use Rattle.euclid.proofs.Euclid.{gcd-stop, gcd-more}
 use borrow.Author.Needs.{needs}
@@ -31,86 +28,6 @@ gcd-at t = and 0 gcd-kinds.ps (is 0 gcd-kinds.ps μ-gcd t) gcd.Pre
 abbrev gcd-below : ℕ → In 0 gcd-kinds.ps
 gcd-below t = and 0 gcd-kinds.ps (falls 0 gcd-kinds.ps _<_ μ-gcd t) gcd.Pre
 
-gcd-returns : (t : ℕ) → gcd-lts.Need-returns (
-  divide-reads.Asked,
-  divide-reads.Learnt,
-  length-reads.Asked,
-  length-reads.Learnt,
-  gcd-below t,
-  gcd.Post,
-) (gcd-at t) gcd.Post
-gcd-returns t c =
-    let pre = c .before .pre .1 in
-    (sym (gcd-stop _ _ _ (sym (pre .2) ∙ c .if1 .taken)), bounded-mono (pre .1) (omega arith))
-
-gcd-divide-requires : (t : ℕ) → gcd-lts.Need-divide-requires (
-  divide-reads.Asked,
-  divide-reads.Learnt,
-  length-reads.Asked,
-  length-reads.Learnt,
-  gcd-below t,
-  gcd.Post,
-) (gcd-at t) gcd.Post
-gcd-divide-requires t c κs = search needs
-
-gcd-sub-length : (t : ℕ) → gcd-lts.Need-sub-length (
-  divide-reads.Asked,
-  divide-reads.Learnt,
-  length-reads.Asked,
-  length-reads.Learnt,
-  gcd-below t,
-  gcd.Post,
-) (gcd-at t) gcd.Post
-gcd-sub-length t c = omega arith
-
-gcd-length-requires : (t : ℕ) → gcd-lts.Need-length-requires (
-  divide-reads.Asked,
-  divide-reads.Learnt,
-  length-reads.Asked,
-  length-reads.Learnt,
-  gcd-below t,
-  gcd.Post,
-) (gcd-at t) gcd.Post
-gcd-length-requires t c κs =
-    let s = c .before .before .before in
-    let size : length (s .args .b .c) ≡ 32 = search needs in
-    let l = length-array (s .args .b .c) size in
-    (omega arith, c .before .divide .ensures .3 .within)
-
-gcd-gcd-requires : (t : ℕ) → gcd-lts.Need-gcd-requires (
-  divide-reads.Asked,
-  divide-reads.Learnt,
-  length-reads.Asked,
-  length-reads.Learnt,
-  gcd-below t,
-  gcd.Post,
-) (gcd-at t) gcd.Post
-gcd-gcd-requires t c κs =
-    let s = c .before .before .before .before in
-    let size : length (s .args .b .c) ≡ 32 = search needs in
-    let l = length-array (s .args .b .c) size in
-    let e = c .length .ensures .0 in
-    (omega arith, (omega arith, s .pre .1 .3, e, rw e (bounded-length (c .before .before .divide .ensures .3))))
-
-gcd-returns-2 : (t : ℕ) → gcd-lts.Need-returns-2 (
-  divide-reads.Asked,
-  divide-reads.Learnt,
-  length-reads.Asked,
-  length-reads.Learnt,
-  gcd-below t,
-  gcd.Post,
-) (gcd-at t) gcd.Post
-gcd-returns-2 t c =
-    let s = c .before .before .before .before .before in
-    let pre = s .pre .1 in
-    let size-a : length (s .args .a .c) ≡ 32 = search needs in
-    let size-b : length (s .args .b .c) ≡ 32 = search needs in
-    let nonzero : lengthOf (s .args .b .c) ≡ 0 → ⊥ = (λ z. c .before .before .before .before .if1 .left (pre .2 ∙ z)) in
-    let more = gcd-more (modulus-prime (s .args .q)) (bounded-stored (pre .1) size-a) (bounded-stored (pre .3) size-b) nonzero in
-    let below : c .gcd .result .c ≡ gcdOf (modulusOf (s .args .q)) (s .args .b .c) (remainderOf (modulusOf (s .args .q)) (s .args .a .c) (s .args .b .c)) =
-    rw (c .before .before .before .divide .ensures .2) at (c .gcd .ensures .0) in
-    (below ∙ sym more, bounded-mono (c .gcd .ensures .1) (omega (arith, c .before .length .ensures .1)))
-
 pub +gcd-spec : {M : Type 1} → statement M
 +gcd-spec = close μ-gcd λ t. gcd-lts.spec (
   divide-reads.Asked,
@@ -122,9 +39,31 @@ pub +gcd-spec : {M : Type 1} → statement M
 )
     (gcd-at t)
     gcd.Post
-    (gcd-returns t)
-    (gcd-divide-requires t)
-    (gcd-sub-length t)
-    (gcd-length-requires t)
-    (gcd-gcd-requires t)
-    (gcd-returns-2 t)
+    -- the second polynomial is zero
+    (λ c.
+    let pre = c .before .pre .1 in
+    (sym (gcd-stop _ _ _ (sym (pre .2) ∙ c .if1 .taken)), bounded-mono (pre .1) (omega arith)))
+    (λ c κs. search needs)
+    (λ c. omega arith)
+    -- the remainder's length
+    (λ c κs.
+    let s = c .before .before .before in
+    let size : length (s .args .b .c) ≡ 32 = search needs in
+    let l = length-array (s .args .b .c) size in
+    (omega arith, c .before .divide .ensures .3 .within))
+    -- the call
+    (λ c κs.
+    let s = c .before .before .before .before in
+    let size : length (s .args .b .c) ≡ 32 = search needs in
+    let l = length-array (s .args .b .c) size in
+    let e = c .length .ensures .0 in
+    (omega arith, (omega arith, s .pre .1 .3, e, rw e (bounded-length (c .before .before .divide .ensures .3)))))
+    -- its result
+    (λ c.
+    let s = c .before .before .before .before .before in
+    let pre = s .pre .1 in
+    let size-a : length (s .args .a .c) ≡ 32 = search needs in
+    let size-b : length (s .args .b .c) ≡ 32 = search needs in
+    let nonzero : lengthOf (s .args .b .c) ≡ 0 → ⊥ = (λ z. c .before .before .before .before .if1 .left (pre .2 ∙ z)) in
+    let more = gcd-more (modulus-prime (s .args .q)) (bounded-stored (pre .1) size-a) (bounded-stored (pre .3) size-b) nonzero in
+    (rw (c .before .before .before .divide .ensures .2) at (c .gcd .ensures .0) ∙ sym more, bounded-mono (c .gcd .ensures .1) (omega (arith, c .before .length .ensures .1))))

@@ -4,7 +4,7 @@ use Rattle.field.specs.Primes.{modulusOf}
 use Rattle.montgomery.specs.declared.Factor.{Factor}
 use Rattle.montgomery.specs.Factors.{formOf}
 use Rattle.poly.specs.Coefficients.{at}
-use Rattle.poly.proofs.Lists.{Filled, filled-none, filled-more}
+use Rattle.lists.proofs.Filling.{Filled, filled-none, filled-more}
 use Rattle.evaluation.proofs.Steps.{is-each}
 use borrow.Author.Needs.{needs}
 use native.Mathlib.Omega.{arith}
@@ -13,13 +13,13 @@ use Rattle.evaluation.proofs.forms.Tie as tie
 
 abbrev Inv-loop : tie.InvT-loop
 Inv-loop q points rows end r₀ l₀ r l =
-    (l ≤ end) × Filled (λ k. formOf (modulusOf q) (at points k)) l (r .v)
+    (l ≤ end) × Filled 32 (λ k. formOf (modulusOf q) (at points k)) (λ k. 0) l (r .v)
 
 abbrev μ-loop : tie.MeasureT-loop
 μ-loop q points rows end r₀ l₀ r l = end - l
 
 loop-holds : tie.Need-loop-holds Inv-loop μ-loop
-loop-holds c = (omega arith, filled-none _ _ refl)
+loop-holds c = (omega arith, filled-none 32 _ _ refl)
 
 loop-again : tie.Need-loop-again Inv-loop μ-loop
 loop-again c =

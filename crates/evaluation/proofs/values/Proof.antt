@@ -3,7 +3,7 @@ use Prim.Native.Nat.{ℕ, _+_, _-_, _≤_, _<_}
 use lib.ListN.{length, drop, replicate}
 use Rattle.field.proofs.Moduli.{modulus-positive, modulus-small}
 use Rattle.poly.specs.Coefficients.{at}
-use Rattle.poly.proofs.Lists.{at-zeros}
+use Rattle.lists.proofs.Tabulated.{at-zeros}
 use Rattle.lanes.specs.Lanes.{modulusAt, Residues}
 use Rattle.lanes_meaning.proofs.Meaning.{constants-are, inverses-are, residues-replaced, horner-below}
 use Rattle.evaluation.specs.Values.{Evaluated}

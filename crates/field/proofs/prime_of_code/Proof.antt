@@ -3,17 +3,8 @@ use borrow.Author.Needs.{needs}
 use Rattle.field.proofs.prime_of_code.Statement.{statement}
 use Rattle.field.proofs.prime_of_code.Tie as tie
 
-returns : tie.Need-returns
-returns c = search needs
-
-returns-2 : tie.Need-returns-2
-returns-2 c = search needs
-
-returns-3 : tie.Need-returns-3
-returns-3 c = search needs
-
 returns-4 : tie.Need-returns-4
 returns-4 c = last-code _ (c .match .rest .0 .0 .1) (c .match .rest .0 .1) (c .match .rest .1)
 
 pub prime-of-code-spec : {M : Type 1} → statement M
-prime-of-code-spec = tie.close (tie.spec returns returns-2 returns-3 returns-4)
+prime-of-code-spec = tie.close (tie.spec (λ c. search needs) (λ c. search needs) (λ c. search needs) returns-4)

@@ -6,11 +6,5 @@ use Rattle.field.proofs.product.Tie as tie
 mul-reduce : tie.Need-mul-reduce
 mul-reduce c = record { fits = product-fits (c .fits .a .fits) (c .fits .b .fits) }
 
-reduce-requires : tie.Need-reduce-requires
-reduce-requires c κs = search needs
-
-returns : tie.Need-returns
-returns c = search needs
-
 pub product-spec : {M : Type 1} → statement M
-product-spec = tie.close (tie.spec mul-reduce reduce-requires returns)
+product-spec = tie.close (tie.spec mul-reduce (λ c κs. search needs) (λ c. search needs))

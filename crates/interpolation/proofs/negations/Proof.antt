@@ -2,21 +2,20 @@ use mathlib.Core.Path.{refl}
 use Prim.Native.Nat.{_+_, _-_, _%_, _≤_, _<_}
 use native.Mathlib.Nat.{mod-lt}
 use Rattle.poly.specs.Coefficients.{at}
-use Rattle.poly.proofs.Lists.{Filled, filled-none, filled-more}
-use Rattle.pair_step.proofs.Arrays.{filled-narrow}
+use Rattle.lists.proofs.Filling.{Filled, filled-none, filled-more, filled-below}
 use borrow.Author.Needs.{needs}
 use native.Mathlib.Omega.{arith}
 use Rattle.interpolation.proofs.negations.Statement.{statement}
 use Rattle.interpolation.proofs.negations.Tie as tie
 
 abbrev Inv-loop : tie.InvT-loop
-Inv-loop p z rows r₀ k₀ r k = (k ≤ rows) × Filled (λ j. (0 + (p - at z j)) % p) k (r .v)
+Inv-loop p z rows r₀ k₀ r k = (k ≤ rows) × Filled 32 (λ j. (0 + (p - at z j)) % p) (λ j. 0) k (r .v)
 
 abbrev μ-loop : tie.MeasureT-loop
 μ-loop p z rows r₀ k₀ r k = rows - k
 
 loop-holds : tie.Need-loop-holds Inv-loop μ-loop
-loop-holds c = (omega arith, filled-none _ _ refl)
+loop-holds c = (omega arith, filled-none 32 _ _ refl)
 
 cast-difference : tie.Need-cast-difference Inv-loop μ-loop
 cast-difference c =
@@ -38,7 +37,7 @@ returns c =
     let S = L .before in
     let positive : 0 < S .args .p = (let low = S .pre .1 0 in omega arith) in
     let inv = L .loop .inv .1 in
-    (λ k l. inv .done k (omega arith), filled-narrow positive inv (λ j. mod-lt _ positive))
+    (λ k l. inv .done k (omega arith), record { size = inv .size; below = filled-below inv (λ j. mod-lt _ positive) (λ j. positive) })
 
 pub negations-spec : {M : Type 1} → statement M
 negations-spec =

@@ -3,18 +3,19 @@ use mathlib.Core.Path.{refl, sym, _∙_}
 use native.Mathlib.Omega.{arith}
 use borrow.Author.Needs.{needs}
 use Rattle.poly.specs.Coefficients.{at}
-use Rattle.poly.proofs.Lists.{Filled, filled-none, filled-more, filled-all, is-tabulate, at-past}
+use Rattle.lists.proofs.Tabulated.{is-tabulate, at-past}
+use Rattle.lists.proofs.Filling.{Filled, filled-none, filled-more, filled-all}
 use Rattle.interpolation.proofs.widened.Statement.{statement}
 use Rattle.interpolation.proofs.widened.Tie as tie
 
 abbrev Inv-loop : tie.InvT-loop
-Inv-loop a r₀ k₀ r k = (k ≤ 32) × Filled (at a) k (r .c)
+Inv-loop a r₀ k₀ r k = (k ≤ 32) × Filled 32 (at a) (λ j. 0) k (r .c)
 
 abbrev μ-loop : tie.MeasureT-loop
 μ-loop a r₀ k₀ r k = 32 - k
 
 loop-holds : tie.Need-loop-holds Inv-loop μ-loop
-loop-holds c = (omega arith, filled-none _ _ (c .zero .ensures))
+loop-holds c = (omega arith, filled-none 32 _ _ (c .zero .ensures))
 
 loop-again : tie.Need-loop-again Inv-loop μ-loop
 loop-again c = (omega arith, filled-more (c .before .before .loop .inv .1) _ (omega arith) refl)

@@ -1,8 +1,9 @@
-use mathlib.Core.Path.{refl}
-use Prim.Native.Nat.{_-_, _≤_, _<_}
+use mathlib.Core.Path.{_≡_, refl}
+use Prim.Native.Nat.{ℕ, _-_, _<_}
+use lib.ListN.{replicate}
 use Rattle.poly.specs.Coefficients.{at}
 use Rattle.lanes.specs.Lanes.{combinedLane}
-use Rattle.lanes.proofs.Changes.{Changed, changed-none, changed-more, changed-all, splat, below-lane, splat-below, reduced-below, combined-is}
+use Rattle.lanes.proofs.Changes.{Changing, changing-start, changing-same, changing-next, changing-end, splat, below-lane, splat-below, next-below, reduced-below, combined-is}
 use borrow.Author.Needs.{needs}
 use native.Mathlib.Omega.{arith}
 use Rattle.lane_combination.proofs.combine.Statement.{statement}
@@ -10,58 +11,51 @@ use Rattle.lane_combination.proofs.combine.Tie as tie
 
 abbrev Inv-loop : tie.InvT-loop
 Inv-loop ps from n a₀ b ds dl cs cl start end k₀ a k =
-    (start ≤ k) × (k ≤ end)
-    × Changed (combinedLane ps (record { form = at ds 0; low = at dl 0 }) a₀ (record { form = at cs 0; low = at cl 0 }) b) start k a₀ a
+    Changing start end (combinedLane ps (record { form = at ds 0; low = at dl 0 }) a₀ (record { form = at cs 0; low = at cl 0 }) b) a₀ k a
 
 abbrev μ-loop : tie.MeasureT-loop
 μ-loop ps from n a₀ b ds dl cs cl start end k₀ a k = end - k
 
 loop-holds : tie.Need-loop-holds Inv-loop μ-loop
-loop-holds c = (omega arith, omega arith, changed-none _ _ _ (c .pre .3 .size))
+loop-holds c = changing-start _ _ _ _ (omega arith) (c .pre .3 .size)
+
+-- the lane of a turn
+lane : (T : tie.In-loop Inv-loop μ-loop) → T .before .loop .k < 32
+lane T = omega arith
 
 product-requires : tie.Need-product-requires Inv-loop μ-loop
 product-requires c κs =
-    let L = c .before .before .before in
-    let S = L .before in
-    let k = L .loop .k in
-    let l : k < 32 = omega arith in
-    let m = S .pre .2 in
-    (splat-below m k l (S .pre .5), rw (L .loop .inv .2 .rest k (omega arith)) (below-lane m k l (S .pre .3 .below k)))
+    let T = c .before .before in
+    let S = T .before .before in
+    (splat-below (S .pre .2) _ (lane T) (S .pre .5), next-below (S .pre .2) _ (lane T) (S .pre .3) (T .before .loop .inv))
 
 product-requires-2 : tie.Need-product-requires-2 Inv-loop μ-loop
 product-requires-2 c κs =
-    let L = c .before .before .before .before .before in
-    let S = L .before in
-    let k = L .loop .k in
-    let l : k < 32 = omega arith in
-    let m = S .pre .2 in
-    (splat-below m k l (S .pre .6), below-lane m k l (S .pre .4 .below k))
+    let T = c .before .before .before .before in
+    let S = T .before .before in
+    (splat-below (S .pre .2) _ (lane T) (S .pre .6), below-lane (S .pre .2) _ (lane T) (S .pre .4 .below _))
 
 difference-requires : tie.Need-difference-requires Inv-loop μ-loop
 difference-requires c κs =
-    let L = c .before .before .before .before .before .before in
-    let S = L .before in
-    let k = L .loop .k in
-    let l : k < 32 = omega arith in
-    let positive : 0 < at (S .args .ps .now) k = below-lane (S .pre .2) k l (omega (arith, S .pre .3 .below 0)) in
+    let T = c .before .before .before .before .before in
+    let S = T .before .before in
+    let positive : 0 < at (S .args .ps .now) (T .before .loop .k) = below-lane (S .pre .2) _ (lane T) (omega (arith, S .pre .3 .below 0)) in
     let one = reduced-below _ _ _ _ positive (c .before .before .product .ensures) in
     let two = reduced-below _ _ _ _ positive (c .product2 .ensures) in
     (one, omega arith)
 
 loop-again : tie.Need-loop-again Inv-loop μ-loop
 loop-again c =
-    let L = c .before .before .before .before .before .before .before in
-    let S = L .before in
-    let k = L .loop .k in
-    let l : k < 32 = omega arith in
-    let inv = L .loop .inv in
-    let same = inv .2 .rest k (omega arith) in
-    let value = combined-is (S .args .ps .now) (S .args .a .now) k _ _ (S .args .b .now) (splat _ k l) (splat _ k l) (splat _ k l) (splat _ k l) same
+    let T = c .before .before .before .before .before .before in
+    let S = T .before .before in
+    let inv = T .before .loop .inv in
+    let each : (x : ℕ) → at (replicate 32 x) (T .before .loop .k) ≡ x = λ x. splat x _ (lane T) in
+    let value = combined-is (S .args .ps .now) (S .args .a .now) _ _ _ (S .args .b .now) (each _) (each _) (each _) (each _) (changing-same inv)
     (c .before .before .before .product .ensures) (c .before .product2 .ensures) (c .difference .ensures) in
-    (omega arith, omega arith, changed-more (inv .2) (c .difference .result) (inv .0) l value)
+    changing-next inv (c .difference .result) (omega arith) (omega arith) value
 
 returns : tie.Need-returns Inv-loop μ-loop
-returns c = (refl, changed-all (c .before .loop .inv .2) (omega arith))
+returns c = (refl, changing-end (c .before .loop .inv) (omega arith))
 
 pub combine-spec : {M : Type 1} → statement M
 combine-spec =

@@ -1,7 +1,7 @@
 use mathlib.Core.Path.{refl}
-use Prim.Native.Nat.{_-_, _≤_, _<_}
+use Prim.Native.Nat.{_-_, _<_}
 use Rattle.lanes.specs.Lanes.{differenceLane}
-use Rattle.lanes.proofs.Changes.{Changed, changed-none, changed-more, changed-all, splat, below-lane, splat-below, less-below, difference-is}
+use Rattle.lanes.proofs.Changes.{Changing, changing-start, changing-same, changing-next, changing-end, splat, below-lane, splat-below, next-below, less-below, difference-is}
 use borrow.Author.Needs.{needs}
 use native.Mathlib.Omega.{arith}
 use Rattle.lane_differences.proofs.times_differences.Statement.{statement}
@@ -9,48 +9,42 @@ use Rattle.lane_differences.proofs.times_differences.Tie as tie
 
 abbrev Inv-loop : tie.InvT-loop
 Inv-loop ps vs from n xs x a₀ x0 start end k₀ a k =
-    (start ≤ k) × (k ≤ end) × Changed (differenceLane ps vs xs x a₀) start k a₀ a
+    Changing start end (differenceLane ps vs xs x a₀) a₀ k a
 
 abbrev μ-loop : tie.MeasureT-loop
 μ-loop ps vs from n xs x a₀ x0 start end k₀ a k = end - k
 
 loop-holds : tie.Need-loop-holds Inv-loop μ-loop
-loop-holds c = (omega arith, omega arith, changed-none _ _ _ (c .pre .5 .size))
+loop-holds c = changing-start _ _ _ _ (omega arith) (c .pre .5 .size)
+
+-- the lane of a turn
+lane : (T : tie.In-loop Inv-loop μ-loop) → T .before .loop .k < 32
+lane T = omega arith
 
 difference-requires : tie.Need-difference-requires Inv-loop μ-loop
 difference-requires c κs =
-    let L = c .before .before .before in
-    let S = L .before in
-    let k = L .loop .k in
-    let l : k < 32 = omega arith in
-    let m = S .pre .2 in
-    let x = splat-below m k l (S .pre .4) in
-    (below-lane m k l (S .pre .3 .below k), omega arith)
+    let T = c .before .before in
+    let S = T .before .before in
+    let x = splat-below (S .pre .2) _ (lane T) (S .pre .4) in
+    (below-lane (S .pre .2) _ (lane T) (S .pre .3 .below _), omega arith)
 
 product-requires : tie.Need-product-requires Inv-loop μ-loop
 product-requires c κs =
-    let L = c .before .before .before .before .before .before .before in
-    let S = L .before in
-    let k = L .loop .k in
-    let l : k < 32 = omega arith in
-    let m = S .pre .2 in
-    let a = below-lane m k l (S .pre .5 .below k) in
-    (less-below _ _ _ (omega arith) (c .before .before .before .difference .ensures), rw (L .loop .inv .2 .rest k (omega arith)) a)
+    let T = c .before .before .before .before .before .before in
+    let a = next-below (T .before .before .pre .2) _ (lane T) (T .before .before .pre .5) (T .before .loop .inv) in
+    (less-below _ _ _ (omega arith) (c .before .before .before .difference .ensures), a)
 
 loop-again : tie.Need-loop-again Inv-loop μ-loop
 loop-again c =
-    let L = c .before .before .before .before .before .before .before .before in
-    let S = L .before in
-    let k = L .loop .k in
-    let l : k < 32 = omega arith in
-    let inv = L .loop .inv in
-    let same = inv .2 .rest k (omega arith) in
-    let value = difference-is (S .args .ps .now) (S .args .a .now) k (S .args .vs .now) (S .args .xs .now) (S .args .x) (splat _ k l)
-    (c .before .before .before .before .difference .ensures) (c .before .before .low .ensures) same (c .product .ensures) in
-    (omega arith, omega arith, changed-more (inv .2) (c .product .result) (inv .0) l value)
+    let T = c .before .before .before .before .before .before .before in
+    let S = T .before .before in
+    let inv = T .before .loop .inv in
+    let value = difference-is (S .args .ps .now) (S .args .a .now) _ (S .args .vs .now) (S .args .xs .now) (S .args .x) (splat _ _ (lane T))
+    (c .before .before .before .before .difference .ensures) (c .before .before .low .ensures) (changing-same inv) (c .product .ensures) in
+    changing-next inv (c .product .result) (omega arith) (omega arith) value
 
 returns : tie.Need-returns Inv-loop μ-loop
-returns c = (refl, changed-all (c .before .loop .inv .2) (omega arith))
+returns c = (refl, changing-end (c .before .loop .inv) (omega arith))
 
 pub times-differences-spec : {M : Type 1} → statement M
 times-differences-spec =

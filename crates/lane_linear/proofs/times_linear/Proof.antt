@@ -1,10 +1,10 @@
 use mathlib.Core.Path.{_≡_, refl}
 use mathlib.Core.List.{_∷_}
-use Prim.Native.Nat.{_-_, _≤_, _<_}
+use Prim.Native.Nat.{_-_, _<_}
 use native.Mathlib.Numerals.{add-one}
 use Rattle.poly.specs.Coefficients.{at}
 use Rattle.lanes.specs.Lanes.{modulusAt, linearLane}
-use Rattle.lanes.proofs.Changes.{Changed, changed-none, changed-more, changed-all, splat, below-lane, splat-below, reduced-below, linear-is}
+use Rattle.lanes.proofs.Changes.{Changing, changing-start, changing-same, changing-next, changing-end, splat, below-lane, splat-below, next-below, reduced-below, linear-is}
 use borrow.Author.Needs.{needs}
 use native.Mathlib.Omega.{arith}
 use Rattle.lane_linear.proofs.times_linear.Statement.{statement}
@@ -12,47 +12,43 @@ use Rattle.lane_linear.proofs.times_linear.Tie as tie
 
 abbrev Inv-loop : tie.InvT-loop
 Inv-loop ps n a₀ xs xl end lower₀ k₀ a lower k =
-    (k ≤ end) × Changed (linearLane ps (record { form = at xs 0; low = at xl 0 }) a₀) 0 k a₀ a × (lower ≡ at (0 ∷ a₀) k) × (lower < modulusAt ps)
+    Changing 0 end (linearLane ps (record { form = at xs 0; low = at xl 0 }) a₀) a₀ k a × (lower ≡ at (0 ∷ a₀) k) × (lower < modulusAt ps)
 
 abbrev μ-loop : tie.MeasureT-loop
 μ-loop ps n a₀ xs xl end lower₀ k₀ a lower k = end - k
 
 loop-holds : tie.Need-loop-holds Inv-loop μ-loop
 loop-holds c =
-    (omega arith, changed-none _ _ _ (c .pre .2 .size), refl, omega (arith, c .pre .2 .below 0))
+    (changing-start _ _ _ _ (omega arith) (c .pre .2 .size), refl, omega (arith, c .pre .2 .below 0))
+
+-- the lane of a turn
+lane : (T : tie.In-loop Inv-loop μ-loop) → T .before .loop .k < 32
+lane T = omega arith
 
 product-requires : tie.Need-product-requires Inv-loop μ-loop
 product-requires c κs =
-    let L = c .before .before .before in
-    let S = L .before in
-    let k = L .loop .k in
-    let l : k < 32 = omega arith in
-    let m = S .pre .1 in
-    (splat-below m k l (S .pre .3), rw (L .loop .inv .1 .rest k (omega arith)) (below-lane m k l (S .pre .2 .below k)))
+    let T = c .before .before in
+    let S = T .before .before in
+    (splat-below (S .pre .1) _ (lane T) (S .pre .3), next-below (S .pre .1) _ (lane T) (S .pre .2) (T .before .loop .inv .0))
 
 difference-requires : tie.Need-difference-requires Inv-loop μ-loop
 difference-requires c κs =
-    let L = c .before .before .before .before in
-    let S = L .before in
-    let k = L .loop .k in
-    let l : k < 32 = omega arith in
-    let lower = below-lane (S .pre .1) k l (L .loop .inv .3) in
+    let T = c .before .before .before in
+    let lower = below-lane (T .before .before .pre .1) _ (lane T) (T .before .loop .inv .2) in
     let taken = reduced-below _ _ _ _ (omega arith) (c .product .ensures) in
     (lower, omega arith)
 
 loop-again : tie.Need-loop-again Inv-loop μ-loop
 loop-again c =
-    let L = c .before .before .before .before .before in
-    let S = L .before in
-    let k = L .loop .k in
-    let l : k < 32 = omega arith in
-    let inv = L .loop .inv in
-    let same = inv .1 .rest k (omega arith) in
-    let value = linear-is (S .args .ps .now) (S .args .a .now) k _ (splat _ k l) (splat _ k l) (inv .2) same (c .before .product .ensures) (c .difference .ensures) in
-    (omega arith, changed-more (inv .1) (c .difference .result) (omega arith) l value, rw add-one same, rw same (S .pre .2 .below k))
+    let T = c .before .before .before .before in
+    let S = T .before .before in
+    let inv = T .before .loop .inv in
+    let same = changing-same (inv .0) in
+    let value = linear-is (S .args .ps .now) (S .args .a .now) _ _ (splat _ _ (lane T)) (splat _ _ (lane T)) (inv .1) same (c .before .product .ensures) (c .difference .ensures) in
+    (changing-next (inv .0) (c .difference .result) (omega arith) (omega arith) value, rw add-one same, rw same (S .pre .2 .below _))
 
 returns : tie.Need-returns Inv-loop μ-loop
-returns c = (omega arith, changed-all (c .before .loop .inv .1) (omega arith))
+returns c = (omega arith, changing-end (c .before .loop .inv .0) (omega arith))
 
 pub times-linear-spec : {M : Type 1} → statement M
 times-linear-spec =

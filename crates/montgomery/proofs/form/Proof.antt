@@ -5,17 +5,8 @@ use borrow.Author.Needs.{needs}
 use Rattle.montgomery.proofs.form.Statement.{statement}
 use Rattle.montgomery.proofs.form.Tie as tie
 
-mul-reduce : tie.Need-mul-reduce
-mul-reduce c = search needs
-
-reduce-requires : tie.Need-reduce-requires
-reduce-requires c κs = search needs
-
 cast-result : tie.Need-cast-result
 cast-result c = omega (arith, modulus-small (c .before .args .q), residue-below (c .before .args .q) (c .before .args .e * 65536))
 
-returns : tie.Need-returns
-returns c = search needs
-
 pub form-spec : {M : Type 1} → statement M
-form-spec = tie.close (tie.spec mul-reduce reduce-requires cast-result returns)
+form-spec = tie.close (tie.spec (λ c. search needs) (λ c κs. search needs) cast-result (λ c. search needs))

@@ -7,11 +7,5 @@ use Rattle.montgomery.proofs.low.Tie as tie
 mul-result : tie.Need-mul-result
 mul-result c = omega (arith, product-of-halves {x = c .args .a} {y = c .args .b} (omega arith) (omega arith))
 
-cast-result : tie.Need-cast-result
-cast-result c = search needs
-
-returns : tie.Need-returns
-returns c = search needs
-
 pub low-spec : {M : Type 1} → statement M
-low-spec = tie.close (tie.spec mul-result cast-result returns)
+low-spec = tie.close (tie.spec mul-result (λ c. search needs) (λ c. search needs))

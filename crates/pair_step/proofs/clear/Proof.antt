@@ -1,7 +1,7 @@
 use mathlib.Core.Path.{refl, _∙_}
 use mathlib.Core.Logic.{inl, inr}
 use Rattle.field.proofs.Moduli.{modulus-small}
-use Rattle.pair_step.proofs.Arrays.{side-is, residues-of, residues-held, form-below, combination-is, combination-held, combined-is, combined-narrow}
+use Rattle.pair_step.proofs.Arrays.{side-is, residues-of, residues-held, combining, combination-is, combination-held, combined-is, combined-narrow}
 use native.Mathlib.Omega.{arith}
 use borrow.Author.Needs.{needs}
 use Rattle.pair_step.proofs.clear.Statement.{statement}
@@ -24,44 +24,23 @@ combine-requires : tie.Need-combine-requires
 combine-requires c κs =
     let F = c .before in
     let S = F .before .before .before .before .before .before in
-    let cs = S .pre .0 in (
-      omega arith,
-      S .pre .2,
-      cs .moduli,
-      residues-held cs (S .pre .5 .left),
-      residues-held cs (S .pre .3 .left),
-      form-below cs _ (F .before .before .as-factor .ensures),
-      form-below cs _ (F .as-factor2 .ensures),
-    )
+    let cs = S .pre .0 in
+    combining cs _ _ _ _ (omega arith) (S .pre .2) (residues-held cs (S .pre .5 .left)) (residues-held cs (S .pre .3 .left)) (F .before .before .as-factor .ensures) (F .as-factor2 .ensures)
 
 combine-requires-2 : tie.Need-combine-requires-2
 combine-requires-2 c κs =
     let F = c .before .before .before in
     let S = F .before .before .before .before .before .before in
-    let cs = S .pre .0 in (
-      omega arith,
-      S .pre .2,
-      cs .moduli,
-      residues-held cs (S .pre .5 .right),
-      residues-held cs (S .pre .3 .right),
-      form-below cs _ (F .before .before .as-factor .ensures),
-      form-below cs _ (F .as-factor2 .ensures),
-    )
+    let cs = S .pre .0 in
+    combining cs _ _ _ _ (omega arith) (S .pre .2) (residues-held cs (S .pre .5 .right)) (residues-held cs (S .pre .3 .right)) (F .before .before .as-factor .ensures) (F .as-factor2 .ensures)
 
 combine-requires-3 : tie.Need-combine-requires-3
 combine-requires-3 c κs =
     let F = c .before .before .before .before .before in
     let S = F .before .before .before .before .before .before in
     let cs = S .pre .0 in
-    let fits = S .pre .1 in (
-      omega (arith, fits .there),
-      omega (arith, fits .few),
-      cs .moduli,
-      residues-of cs (S .pre .6),
-      residues-of cs (S .pre .4),
-      form-below cs _ (F .before .before .as-factor .ensures),
-      form-below cs _ (F .as-factor2 .ensures),
-    )
+    let fits = S .pre .1 in
+    combining cs _ _ _ _ (omega (arith, fits .there)) (omega (arith, fits .few)) (residues-of cs (S .pre .6)) (residues-of cs (S .pre .4)) (F .before .before .as-factor .ensures) (F .as-factor2 .ensures)
 
 returns-2 : tie.Need-returns-2
 returns-2 c =

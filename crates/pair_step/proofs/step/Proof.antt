@@ -1,83 +1,60 @@
 use mathlib.Core.Path.{refl, ap}
 use mathlib.Core.Bool.{not}
 use Rattle.pair_step.specs.declared.Sides.{Sides}
-use Rattle.pair_step.specs.Held.{firstLeads}
-use Rattle.pair_step.proofs.Arrays.{held-mono}
-use Rattle.pair_step.proofs.Lines.{longer-short, longer-left, longer-right, freed-longer, stays, exchanged}
+use Rattle.pair_step.proofs.Lines.{Ready, advancing, freeing, freed-longer, stays, exchanged}
 use borrow.Author.Needs.{needs}
-use native.Mathlib.Omega.{arith}
 use Rattle.pair_step.proofs.step.Statement.{statement}
 use Rattle.pair_step.proofs.step.Tie as tie
+
+-- both pairs where the function begins
+module _ (S : tie.Start) where
+  first : Ready (S .args .r) (S .args .sides .first) (S .args .a0 .now) (S .args .b0 .now) (S .args .d0 .now)
+  first = record { held = S .pre .5; low = S .pre .4 .first-low; small = S .pre .4 .first-small }
+
+  second : Ready (S .args .r) (S .args .sides .second) (S .args .a1 .now) (S .args .b1 .now) (S .args .d1 .now)
+  second = record { held = S .pre .6; low = S .pre .4 .second-low; small = S .pre .4 .second-small }
 
 clear-requires : tie.Need-clear-requires
 clear-requires c κs =
     let N = c .before .before .before .before .before .before in
     let S = N .before .before .before .before .before .before .before .before in
-    let low = S .pre .4 in
-    let n = N .longer .ensures in (
-      S .pre .0,
-      S .pre .2,
-      omega (arith, longer-short (S .pre .2) n (low .first-low) (low .second-low)),
-      held-mono (S .pre .5 .pair) (omega (arith, n, longer-left (S .args .sides .first .n) (S .args .sides .second .n))),
-      S .pre .5 .discrepancies,
-      held-mono (S .pre .6 .pair) (omega (arith, n, longer-right (S .args .sides .first .n) (S .args .sides .second .n))),
-      S .pre .6 .discrepancies,
-    )
+    freeing (S .pre .0) (S .pre .2) (first S) (second S) (N .longer .ensures)
 
 advance-requires : tie.Need-advance-requires
 advance-requires c κs =
     let S = c .before .before .before .before .before .before .before .before .before .before .before .before .before .before .before .before .before .before in
-    let fits = S .pre .2 in
-    let low = S .pre .4 in
-    (S .pre .0, S .pre .1, fits, S .pre .3, low .first-small, omega (arith, low .first-low, fits .there, fits .few), S .pre .5)
+    advancing (S .pre .0) (S .pre .1) (S .pre .2) (S .pre .3) (first S)
 
 clear-requires-2 : tie.Need-clear-requires-2
 clear-requires-2 c κs =
     let N = c .before .before .before .before .before .before in
     let S = N .before .before .before .before .before .before .before .before in
-    let low = S .pre .4 in
-    let n = N .longer2 .ensures in (
-      S .pre .0,
-      S .pre .2,
-      omega (arith, longer-short (S .pre .2) n (low .second-low) (low .first-low)),
-      held-mono (S .pre .6 .pair) (omega (arith, n, longer-left (S .args .sides .second .n) (S .args .sides .first .n))),
-      S .pre .6 .discrepancies,
-      held-mono (S .pre .5 .pair) (omega (arith, n, longer-right (S .args .sides .second .n) (S .args .sides .first .n))),
-      S .pre .5 .discrepancies,
-    )
+    freeing (S .pre .0) (S .pre .2) (second S) (first S) (N .longer2 .ensures)
 
 advance-requires-2 : tie.Need-advance-requires-2
 advance-requires-2 c κs =
     let S = c .before .before .before .before .before .before .before .before .before .before .before .before .before .before .before .before .before .before in
-    let fits = S .pre .2 in
-    let low = S .pre .4 in
-    (S .pre .0, S .pre .1, fits, S .pre .3, low .second-small, omega (arith, low .second-low, fits .there, fits .few), S .pre .6)
+    advancing (S .pre .0) (S .pre .1) (S .pre .2) (S .pre .3) (second S)
 
 returns : tie.Need-returns
 returns c =
     let L = c .before .before .before in
     let S = L .before .before .before .before .before in
-    let low = S .pre .4 in
     let none = rw (c .before .enum-told .given .1) at (L .leading .ensures) in
     let kept = c .both-kept .ensures in
     record {
-      first = stays (S .pre .2) (S .pre .5) (S .pre .6) (low .first-low) (low .second-low) _ (none .0)
-          (record { left = refl; right = refl; side = ap (λ (s : Sides). s .first) kept; exact = refl });
-      second = stays (S .pre .2) (S .pre .6) (S .pre .5) (low .second-low) (low .first-low) _ (none .1)
-          (record { left = refl; right = refl; side = ap (λ (s : Sides). s .second) kept; exact = refl });
+      first = stays (S .pre .2) (first S) (second S) _ (none .0) (record { left = refl; right = refl; side = ap (λ (s : Sides). s .first) kept; exact = refl });
+      second = stays (S .pre .2) (second S) (first S) _ (none .1) (record { left = refl; right = refl; side = ap (λ (s : Sides). s .second) kept; exact = refl });
     }
 
 returns-2 : tie.Need-returns-2
 returns-2 c =
     let C = c .before .before .before .before in
     let N = C .before .before .before .before .before .before .before in
-    let E = N .before in
-    let L = E .before .before in
+    let L = N .before .before .before in
     let S = L .before .before .before .before .before in
-    let low = S .pre .4 in
-    let lead = rw (E .enum-told2 .given .1) at (L .leading .ensures) in
-    let leads = firstLeads (S .args .sides) in
-    let both = exchanged (S .pre .2) (S .pre .5) (S .pre .6) (low .first-low) (low .second-low) leads (not leads) (lead .0)
+    let lead = rw (N .before .enum-told2 .given .1) at (L .leading .ensures) in
+    let both = exchanged (S .pre .2) (first S) (second S) _ _ (lead .0)
     (λ k. (lead .1 k, ap not (lead .1 k))) (c .advance .ensures) (freed-longer (N .longer .ensures) (C .clear .ensures)) in
     record { first = both .0; second = both .1 }
 
@@ -85,13 +62,10 @@ returns-3 : tie.Need-returns-3
 returns-3 c =
     let C = c .before .before .before .before in
     let N = C .before .before .before .before .before .before .before in
-    let E = N .before in
-    let L = E .before .before in
+    let L = N .before .before .before in
     let S = L .before .before .before .before .before in
-    let low = S .pre .4 in
-    let lead = rw (E .enum-told3 .given .1) at (L .leading .ensures) in
-    let leads = firstLeads (S .args .sides) in
-    let both = exchanged (S .pre .2) (S .pre .6) (S .pre .5) (low .second-low) (low .first-low) (not leads) leads (lead .0)
+    let lead = rw (N .before .enum-told3 .given .1) at (L .leading .ensures) in
+    let both = exchanged (S .pre .2) (second S) (first S) _ _ (lead .0)
     (λ k. (ap not (lead .1 k), lead .1 k)) (c .advance2 .ensures) (freed-longer (N .longer2 .ensures) (C .clear2 .ensures)) in
     record { first = both .1; second = both .0 }
 

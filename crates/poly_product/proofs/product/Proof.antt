@@ -5,19 +5,19 @@ use borrow.Author.Needs.{needs}
 use Rattle.field.specs.Primes.{modulusOf}
 use Rattle.field.proofs.Moduli.{modulus-positive}
 use Rattle.poly.specs.Operations.{productAt, productOf}
-use Rattle.poly.proofs.Lists.{Filled, filled-none, filled-more, filled-all}
+use Rattle.lists.proofs.Filling.{Filled, filled-none, filled-more, filled-all}
 use Rattle.poly_product.proofs.Products.{product-reduced-past, bounded-product}
 use Rattle.poly_product.proofs.product.Statement.{statement}
 use Rattle.poly_product.proofs.product.Tie as tie
 
 abbrev Inv-loop : tie.InvT-loop
-Inv-loop q a la b lb r₀ k₀ r k = (k ≤ la + lb - 1) × Filled (λ j. productAt (a .c) (b .c) j % modulusOf q) k (r .c)
+Inv-loop q a la b lb r₀ k₀ r k = (k ≤ la + lb - 1) × Filled 32 (λ j. productAt (a .c) (b .c) j % modulusOf q) (λ j. 0) k (r .c)
 
 abbrev μ-loop : tie.MeasureT-loop
 μ-loop q a la b lb r₀ k₀ r k = la + lb - k
 
 loop-holds : tie.Need-loop-holds Inv-loop μ-loop
-loop-holds c = (omega arith, filled-none _ _ (c .zero .ensures))
+loop-holds c = (omega arith, filled-none 32 _ _ (c .zero .ensures))
 
 product-coefficient-requires : tie.Need-product-coefficient-requires Inv-loop μ-loop
 product-coefficient-requires c κs =

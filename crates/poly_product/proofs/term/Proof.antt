@@ -7,8 +7,5 @@ use Rattle.poly_product.proofs.term.Tie as tie
 mul-result : tie.Need-mul-result
 mul-result c = record { fits = product-fits (c .fits .x .fits) (c .fits .y .fits) }
 
-returns : tie.Need-returns
-returns c = search needs
-
 pub term-spec : {M : Type 1} → statement M
-term-spec = tie.close (tie.spec mul-result returns)
+term-spec = tie.close (tie.spec mul-result (λ c. search needs))

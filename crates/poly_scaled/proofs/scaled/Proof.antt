@@ -6,19 +6,19 @@ use borrow.Author.Needs.{needs}
 use Rattle.field.specs.Primes.{modulusOf}
 use Rattle.field.proofs.Moduli.{modulus-positive}
 use Rattle.poly.specs.Operations.{scaledAt, scaledOf}
-use Rattle.poly.proofs.Lists.{Filled, filled-none, filled-more, filled-all}
+use Rattle.lists.proofs.Filling.{Filled, filled-none, filled-more, filled-all}
 use Rattle.poly.proofs.Bounds.{scaled-past, bounded-scaled}
 use Rattle.poly_scaled.proofs.scaled.Statement.{statement}
 use Rattle.poly_scaled.proofs.scaled.Tie as tie
 
 abbrev Inv-loop : tie.InvT-loop
-Inv-loop q n c a r₀ k₀ r k = (k ≤ n) × Filled (scaledAt (modulusOf q) c (a .c)) k (r .c)
+Inv-loop q n c a r₀ k₀ r k = (k ≤ n) × Filled 32 (scaledAt (modulusOf q) c (a .c)) (λ j. 0) k (r .c)
 
 abbrev μ-loop : tie.MeasureT-loop
 μ-loop q n c a r₀ k₀ r k = n - k
 
 loop-holds : tie.Need-loop-holds Inv-loop μ-loop
-loop-holds c = (omega arith, filled-none _ _ (c .zero .ensures))
+loop-holds c = (omega arith, filled-none 32 _ _ (c .zero .ensures))
 
 loop-again : tie.Need-loop-again Inv-loop μ-loop
 unfolding scaledAt

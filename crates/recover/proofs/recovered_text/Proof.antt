@@ -4,6 +4,7 @@ use native.Mathlib.Omega.{arith}
 use mathlib.Core.List.{List}
 use lib.ListN.{length}
 use borrow.Author.Needs.{needs}
+use Rattle.lists.proofs.Truth.{clash}
 use Rattle.job.specs.declared.reading.Reading.{Reading}
 use Rattle.job.specs.Reading.{readingOf}
 use Rattle.text.specs.declared.Written.the-variants.{Bytes}
@@ -50,10 +51,10 @@ returns : tie.Need-returns
 returns c = result (c .before .before .before .before .before) _ (c .before .count .given .1)
 
 returns-2 : tie.Need-returns-2
-returns-2 c = let is = c .enum-told .given .1 in let never = written (c .before .before .before .before) in let z : _≡_ {A = ℕ} 0 1 = cc in absurd (omega arith)
+returns-2 c = let is = c .enum-told .given .1 in let never = written (c .before .before .before .before) in clash cc
 
 returns-3 : tie.Need-returns-3
-returns-3 c = let is = c .enum-told2 .given .1 in let never = written (c .before .before .before .before) in let z : _≡_ {A = ℕ} 0 1 = cc in absurd (omega arith)
+returns-3 c = let is = c .enum-told2 .given .1 in let never = written (c .before .before .before .before) in clash cc
 
 pub recovered-text-spec : {M : Type 1} → statement M
 recovered-text-spec =

@@ -6,12 +6,6 @@ use borrow.Author.Needs.{needs}
 use Rattle.reduction.proofs.difference.Statement.{statement}
 use Rattle.reduction.proofs.difference.Tie as tie
 
-sub-result : tie.Need-sub-result
-sub-result c = search needs
-
-add-result : tie.Need-add-result
-add-result c = search needs
-
 returns : tie.Need-returns
 returns c = sym (mod-eq-of-lt (omega arith))
 
@@ -19,4 +13,4 @@ returns-2 : tie.Need-returns-2
 returns-2 c = difference-is _ _ _ (omega arith) (omega arith)
 
 pub difference-spec : {M : Type 1} → statement M
-difference-spec = tie.close (tie.spec sub-result add-result returns returns-2)
+difference-spec = tie.close (tie.spec (λ c. search needs) (λ c. search needs) returns returns-2)

@@ -1,38 +1,31 @@
-use Prim.Native.Nat.{_≤_, _-_}
-use mathlib.Core.Path.{_≡_, refl, sym, _∙_}
+use Prim.Native.Nat.{_-_}
+use mathlib.Core.Path.{sym, _∙_}
 use borrow.Author.Needs.{needs}
 use native.Mathlib.Omega.{arith}
 use lib.Dec.{eqb}
 use lib.ListN.{getD}
-use Rattle.row_search.specs.declared.Found.the-variants.{Nothing}
-use Rattle.row_search.specs.Search.{firstBelow, anyBelow}
-use Rattle.row_search.proofs.FirstBelow.{none-more, first-at, first-none}
+use Rattle.row_search.specs.Search.{anyBelow}
+use Rattle.row_search.proofs.FirstBelow.{Searching, search-start, search-next, search-found, search-end}
 use Rattle.row_search.proofs.first_repeated.Statement.{statement}
 use Rattle.row_search.proofs.first_repeated.Tie as tie
 
 abbrev Inv-loop : tie.InvT-loop
-Inv-loop points rows r₀ r =
-    (r ≤ rows) × (firstBelow r (λ k. anyBelow k (λ q. eqb (getD points q 0) (getD points k 0))) ≡ Nothing)
+Inv-loop points rows r₀ r = Searching (λ k. anyBelow k (λ q. eqb (getD points q 0) (getD points k 0))) rows r
 
 abbrev μ-loop : tie.MeasureT-loop
 μ-loop points rows r₀ r = rows - r
 
 loop-holds : tie.Need-loop-holds Inv-loop μ-loop
-unfolding firstBelow
-loop-holds c = (search needs, refl)
+loop-holds c = search-start _ _
 
 returns : tie.Need-returns Inv-loop μ-loop
-returns c =
-    let a = c .before .before .before in
-    sym (first-at _ (a .loop .r) _ (a .loop .inv .1) (sym (c .before .stands-earlier .ensures) ∙ c .if1 .taken) (omega arith))
+returns c = search-found _ (c .before .before .before .loop .inv) (omega arith) (sym (c .before .stands-earlier .ensures) ∙ c .if1 .taken)
 
 loop-again : tie.Need-loop-again Inv-loop μ-loop
-loop-again c =
-    let a = c .before .before .before in
-    (omega arith, none-more _ (a .loop .r) (a .loop .inv .1) (sym (c .before .stands-earlier .ensures) ∙ c .if1 .left))
+loop-again c = search-next _ (c .before .before .before .loop .inv) (omega arith) (sym (c .before .stands-earlier .ensures) ∙ c .if1 .left)
 
 returns-2 : tie.Need-returns-2 Inv-loop μ-loop
-returns-2 c = first-none _ (c .before .loop .r) _ (c .before .loop .inv .1) (omega arith)
+returns-2 c = search-end _ (c .before .loop .inv) (omega arith)
 
 pub first-repeated-spec : {M : Type 1} → statement M
 first-repeated-spec =

@@ -5,7 +5,7 @@ use native.Mathlib.Nat.{lt-suc-self}
 use lib.ListN.{length}
 use Rattle.format.specs.Numbers.{wordFrom}
 use Rattle.word.specs.Word.{marked}
-use Rattle.text.specs.Drafts.{extended}
+use Rattle.text.specs.Drafts.{textRoom, extended}
 use Rattle.text.specs.Decimal.{decimalOf}
 use Rattle.text.specs.Lines.{lineFeed, rowItems, coefficientFrom, coefficientsLine, outputLines}
 use Rattle.text.specs.Text.{recoveredLabel, wrongLabel, denominatorLabel, recoveredText}
@@ -25,7 +25,7 @@ put-polynomial-requires c κs =
 put-outputs-requires : tie.Need-put-outputs-requires
 put-outputs-requires c κs = c .before .before .before .before .before .before .before .before .before .before .before .before .before .before .pre
 
-whole : (c : tie.After-put-outputs) → length (c .put-outputs .result .bytes) ≡ 1280
+whole : (c : tie.After-put-outputs) → length (c .put-outputs .result .bytes) ≡ textRoom
 whole c = let ok = c .put-outputs .ok in search needs
 
 returns : tie.Need-returns

@@ -3,6 +3,7 @@ use mathlib.Core.Path.{_≡_}
 use mathlib.Core.List.{[], _++_}
 use native.Mathlib.Nat.{lt-suc-self}
 use lib.ListN.{length}
+use Rattle.text.specs.Drafts.{textRoom}
 use Rattle.text.specs.Decimal.{decimalOf, itemOf}
 use Rattle.text.specs.Lines.{lineFeed}
 use Rattle.text.specs.Text.{refusedLabel, refusedText}
@@ -12,7 +13,7 @@ use borrow.Author.Needs.{needs}
 use Rattle.text.proofs.refused.Statement.{statement}
 use Rattle.text.proofs.refused.Tie as tie
 
-whole : (c : tie.After-put-byte) → length (c .put-byte .result .bytes) ≡ 1280
+whole : (c : tie.After-put-byte) → length (c .put-byte .result .bytes) ≡ textRoom
 whole c = let ok = c .put-byte .ok in search needs
 
 returns : tie.Need-returns

@@ -1,7 +1,7 @@
-use mathlib.Core.Path.{_≡_, sym, ap, subst, _∙_}
+use mathlib.Core.Path.{_≡_, sym, ap, _∙_}
 use mathlib.Core.Bool.{true}
-use lib.Dec.{T}
 use borrow.Author.Tests.{not-true, not-false}
+use Rattle.lists.proofs.Truth.{clash}
 use Rattle.answer.specs.Bytes.{overwritten}
 use Rattle.text.specs.Text.{isStorable}
 use Rattle.text.proofs.Writing.{storable-true, told-malformed, told-short, told-bytes}
@@ -15,7 +15,7 @@ returns c =
     let g = c .before .before .before .before .args in
     let bad = sym (c .before .storable .ensures) ∙ not-true _ (c .if1 .taken) in
     let told = told-malformed (g .bounds) (g .outcome) (g .area .now) (g .buffer .now) bad in
-    (told .0, told .1, λ e. absurd (subst T (sym e ∙ bad) tt))
+    (told .0, told .1, λ e. clash (sym e ∙ bad))
 
 good : (c : tie.Else1) → isStorable (c .before .before .before .before .args .bounds) ≡ true
 good c = sym (c .before .storable .ensures) ∙ not-false _ (c .if1 .left)
@@ -36,8 +36,9 @@ returns-3 c =
     let passed = made .before in
     let g = passed .before .before .before .before .args in
     let text = made .text-of .ensures in
-    let told = told-bytes (g .bounds) (g .outcome) (g .area .now) (g .buffer .now) (good passed) (made .text-of .result .count) (text .1) (omega arith) in
-    (told .0, c .before .before .copy-out .ensures ∙ ap (λ l. overwritten l (g .buffer .now)) (text .0) ∙ told .1, λ e. omega arith)
+    let copied = c .before .before .copy-out .ensures in
+    let told = told-bytes (g .bounds) (g .outcome) (g .area .now) (g .buffer .now) (good passed) (c .before .before .copy-out .result) (copied .0 ∙ text .1) (omega arith) in
+    (told .0, copied .1 ∙ ap (λ l. overwritten l (g .buffer .now)) (text .0) ∙ told .1, λ e. omega arith)
 
 pub write-text-spec : {M : Type 1} → statement M
 write-text-spec =

@@ -2,6 +2,7 @@ use Prim.Native.Nat.{_-_, _≤_}
 use mathlib.Core.Path.{_≡_, refl, ap, _∙_}
 use lib.ListN.{length, length-set}
 use lib.Seq.{paste, paste-zero}
+use Rattle.text.specs.Drafts.{textRoom}
 use Rattle.text.proofs.Puts.{copy-next, copy-all}
 use borrow.Author.Needs.{needs}
 use native.Mathlib.Omega.{arith}
@@ -23,7 +24,7 @@ loop-again : tie.Need-loop-again Inv-loop μ-loop
 loop-again c =
     let s = c .before .before in
     let g = s .before .args in
-    let whole : length (g .t1 .bytes) ≡ 1280 = search needs in (
+    let whole : length (g .t1 .bytes) ≡ textRoom = search needs in (
       omega arith,
       simp length-set (s .loop .inv .1),
       copy-next (g .t1 .bytes) whole (g .buffer .now) (s .loop .buffer) (s .loop .k) (omega arith) (omega arith) (s .loop .inv .2),
@@ -36,9 +37,9 @@ returns : tie.Need-returns Inv-loop μ-loop
 returns c =
     let s = c .before in
     let g = s .before .args in
-    let whole : length (g .t1 .bytes) ≡ 1280 = search needs in
+    let whole : length (g .t1 .bytes) ≡ textRoom = search needs in
     let all : s .loop .k ≡ g .t1 .count = omega arith in
-    s .loop .inv .2 ∙ ap (paste (g .buffer .now) 0 (g .t1 .bytes)) all ∙ copy-all (g .t1 .bytes) whole (g .buffer .now) (g .t1 .count) (omega arith)
+    (refl, s .loop .inv .2 ∙ ap (paste (g .buffer .now) 0 (g .t1 .bytes)) all ∙ copy-all (g .t1 .bytes) whole (g .buffer .now) (g .t1 .count) (omega arith))
 
 pub copy-out-spec : {M : Type 1} → statement M
 copy-out-spec =

@@ -8,12 +8,6 @@ use borrow.Author.Needs.{needs}
 use Rattle.text.proofs.draft.put_item.Statement.{statement}
 use Rattle.text.proofs.draft.put_item.Tie as tie
 
-put-byte-requires : tie.Need-put-byte-requires
-put-byte-requires c κs = search needs
-
-put-decimal-requires : tie.Need-put-decimal-requires
-put-decimal-requires c κs = search needs
-
 returns : tie.Need-returns
 returns c =
     let s = c .before in
@@ -21,4 +15,4 @@ returns c =
     put-both (held (g .draft)) (32 ∷ []) (decimalOf (g .value)) (s .put-byte .ensures) (c .put-decimal .ensures (suc (g .value)) (lt-suc-self (g .value)))
 
 pub put-item-spec : {M : Type 1} → statement M
-put-item-spec = tie.close (tie.spec put-byte-requires put-decimal-requires returns)
+put-item-spec = tie.close (tie.spec (λ c κs. search needs) (λ c κs. search needs) returns)

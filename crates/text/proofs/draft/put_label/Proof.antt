@@ -4,7 +4,7 @@ use mathlib.Core.List.{[], _∷_, _++_}
 use native.Mathlib.Numerals.{add-one}
 use lib.ListN.{length, getD, take}
 use lib.Seq.{take-suc, take-length}
-use Rattle.text.specs.Drafts.{held, extended}
+use Rattle.text.specs.Drafts.{textRoom, held, extended}
 use Rattle.text.proofs.Puts.{put-nothing, put-both}
 use borrow.Author.Needs.{needs}
 use native.Mathlib.Omega.{arith}
@@ -20,7 +20,7 @@ abbrev μ-loop : tie.MeasureT-loop
 loop-holds : tie.Need-loop-holds Inv-loop μ-loop
 loop-holds c =
     let g = c .before .args in
-    let whole : length (g .draft .bytes) ≡ 1280 = search needs in
+    let whole : length (g .draft .bytes) ≡ textRoom = search needs in
     (omega arith, put-nothing (g .draft .bytes) whole (g .draft .count))
 
 loop-again : tie.Need-loop-again Inv-loop μ-loop

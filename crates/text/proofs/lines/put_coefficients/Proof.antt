@@ -1,7 +1,7 @@
 use Prim.Native.Nat.{_-_, _≤_}
 use mathlib.Core.Path.{_≡_, sym, ap, _∙_}
 use lib.ListN.{length}
-use Rattle.text.specs.Drafts.{held, extended}
+use Rattle.text.specs.Drafts.{textRoom, held, extended}
 use Rattle.text.specs.Decimal.{itemOf}
 use Rattle.text.specs.Lines.{coefficientFrom, itemsBelow}
 use Rattle.text.proofs.Puts.{put-nothing, put-both}
@@ -21,7 +21,7 @@ loop-holds : tie.Need-loop-holds Inv-loop μ-loop
 unfolding itemsBelow
 loop-holds c =
     let g = c .before .args in
-    let whole : length (g .draft .bytes) ≡ 1280 = search needs in
+    let whole : length (g .draft .bytes) ≡ textRoom = search needs in
     (omega arith, put-nothing (g .draft .bytes) whole (g .draft .count))
 
 loop-again : tie.Need-loop-again Inv-loop μ-loop

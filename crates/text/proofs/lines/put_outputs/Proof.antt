@@ -3,7 +3,7 @@ use mathlib.Core.Path.{_≡_, refl, sym, ap, ap₂, _∙_}
 use lib.ListN.{length}
 use Rattle.format.specs.Bounds.{numeratorBoundOf}
 use Rattle.answer.specs.Bytes.{numeratorStart}
-use Rattle.text.specs.Drafts.{held, extended}
+use Rattle.text.specs.Drafts.{textRoom, held, extended}
 use Rattle.text.specs.Lines.{outputLineFrom, outputLines}
 use Rattle.text.proofs.Puts.{put-nothing, put-both}
 use Rattle.text.proofs.Polynomials.{next-start, next-line}
@@ -23,36 +23,18 @@ loop-holds : tie.Need-loop-holds Inv-loop μ-loop
 unfolding numeratorStart outputLines
 loop-holds c =
     let g = c .before .before in
-    let whole : length (g .args .draft .bytes) ≡ 1280 = search needs in
+    let whole : length (g .args .draft .bytes) ≡ textRoom = search needs in
     (omega arith, refl, omega (arith, g .pre .denominator-low), put-nothing (g .args .draft .bytes) whole (g .args .draft .count))
+
+-- the bound of a turn's output
+low : (s : tie.At-loop Inv-loop μ-loop) → numeratorBoundOf (s .before .before .before .args .b) (s .loop .i) ≤ 31
+low s = s .before .before .before .pre .numerators-low (s .loop .i)
 
 put-output-requires : tie.Need-put-output-requires Inv-loop μ-loop
 put-output-requires c κs =
-    let s = c .before .before in
-    let g = s .before .before .before in
-    let low = g .pre .numerators-low (s .loop .i) in
-    let few = g .pre .few in
+    let bound = low (c .before .before) in
+    let few = c .before .before .before .before .before .pre .few in
     (omega arith, omega arith, omega arith)
-
-add-start-3 : tie.Need-add-start-3 Inv-loop μ-loop
-add-start-3 c =
-    let s = c .before .before .before in
-    let low = s .before .before .before .pre .numerators-low (s .loop .i) in
-    omega arith
-
-mul-start-2 : tie.Need-mul-start-2 Inv-loop μ-loop
-mul-start-2 c =
-    let s = c .before .before .before in
-    let low = s .before .before .before .pre .numerators-low (s .loop .i) in
-    omega arith
-
-add-start-4 : tie.Need-add-start-4 Inv-loop μ-loop
-add-start-4 c =
-    let s = c .before .before .before in
-    let g = s .before .before .before in
-    let low = g .pre .numerators-low (s .loop .i) in
-    let few = g .pre .few in
-    omega arith
 
 loop-again : tie.Need-loop-again Inv-loop μ-loop
 loop-again c =
@@ -62,7 +44,7 @@ loop-again c =
     let draft = g .args .draft in
     let area = g .args .area .now in
     let i = s .loop .i in
-    let low = g .pre .numerators-low i in
+    let small = low s in
     let bound = c .before .numerator-bound .ensures in
     let line = outputLineFrom area i (numeratorStart b i) (numeratorBoundOf b i) in
     let put = c .put-output .ensures ∙ ap₂ (λ start top. extended (s .loop .r) (outputLineFrom area i start top)) (s .loop .inv .1) bound in (
@@ -91,9 +73,9 @@ put-outputs-spec =
     loop-holds
     (λ c κs. search needs)
     put-output-requires
-    add-start-3
-    mul-start-2
-    add-start-4
+    (λ c. omega (arith, low (c .before .before .before)))
+    (λ c. omega (arith, low (c .before .before .before)))
+    (λ c. omega (arith, low (c .before .before .before), c .before .before .before .before .before .before .pre .few))
     (λ c. omega arith)
     (λ c. omega arith)
     loop-again

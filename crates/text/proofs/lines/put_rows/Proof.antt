@@ -4,7 +4,7 @@ use mathlib.Core.List.{[], _++_}
 use lib.Pow.{pow-pos}
 use lib.ListN.{length}
 use Rattle.word.specs.Word.{marked}
-use Rattle.text.specs.Drafts.{held, extended}
+use Rattle.text.specs.Drafts.{textRoom, held, extended}
 use Rattle.text.specs.Decimal.{itemOf}
 use Rattle.text.specs.Lines.{rowItems}
 use Rattle.text.proofs.Puts.{put-nothing, put-both, put-empty}
@@ -24,7 +24,7 @@ abbrev μ-loop : tie.MeasureT-loop
 loop-holds : tie.Need-loop-holds Inv-loop μ-loop
 loop-holds c =
     let g = c .args in
-    let whole : length (g .draft .bytes) ≡ 1280 = search needs in
+    let whole : length (g .draft .bytes) ≡ textRoom = search needs in
     (c .fits .word .fits, put-nothing (g .draft .bytes) whole (g .draft .count), refl)
 
 without-row-requires : tie.Need-without-row-requires Inv-loop μ-loop

@@ -1,0 +1,4 @@
+pub mod Truth
+pub mod Order
+pub mod Tabulated
+pub mod Filling
