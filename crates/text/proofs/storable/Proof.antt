@@ -1,4 +1,6 @@
-use mathlib.Core.Path.{sym}
+use mathlib.Core.Path.{sym, ap, _∙_}
+use lib.Dec.{leb}
+use borrow.Author.Needs.{needs}
 use borrow.Author.Tests.{lt-leb, le-leb}
 use Rattle.text.proofs.Writing.{storable-last}
 use Rattle.text.proofs.storable.Statement.{statement}
@@ -11,7 +13,9 @@ returns-2 : tie.Need-returns-2
 returns-2 c = simp (le-leb _ _ (c .before .before .if1 .left), lt-leb _ _ (c .if2 .taken))
 
 returns-3 : tie.Need-returns-3
-returns-3 c = sym (storable-last (c .before .before .before .before .before .args .b) (c .before .before .before .if1 .left) (c .before .if2 .left))
+returns-3 c =
+    ap (λ df. leb df 31) (c .numerator-bound .ensures)
+    ∙ sym (storable-last (c .before .before .before .before .before .args .b) (c .before .before .before .if1 .left) (c .before .if2 .left))
 
 pub storable-spec : {M : Type 1} → statement M
-storable-spec = tie.close (tie.spec returns returns-2 returns-3)
+storable-spec = tie.close (tie.spec returns returns-2 (λ c κs. search needs) returns-3)
