@@ -3,8 +3,6 @@ use Prim.Native.Nat.{ℕ, _+_, _≤_}
 use mathlib.Core.Path.{_≡_, refl, ap, _∙_}
 use mathlib.Core.Bool.{cond}
 use mathlib.Core.List.{List, [], _∷_, _++_}
-use native.Mathlib.Nat.{mul-le-mul-right}
-use native.Mathlib.Omega.{arith}
 use lib.ListN.{length, length-append}
 use lib.Dec.{eqb, lit≤}
 use Rattle.field.specs.declared.Prime.the-variants.{P7}
@@ -50,7 +48,3 @@ length-answer b word g f =
     let outputs = outputBytes b f (b .outputs) in
     length-append (fourBytes word ++ coefficientBytes g (b .dg + 1)) outputs
     ∙ ap (λ k. k + length outputs) (length-front word g (b .dg + 1)) ∙ answer-end b f
-
--- "254 at most": a job has at most 31 rows, and no fewer than df + dg + 2 E + 1
-answer-short : (b : Bounds) → b .df + b .dg ≤ 30 → b .outputs ≤ 4 → answerLengthOf b ≤ 254
-answer-short b low few = omega (arith, mul-le-mul-right (b .df + 1) few)

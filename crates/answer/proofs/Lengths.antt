@@ -2,7 +2,7 @@
 use Prim.Native.Nat.{ℕ, zero, suc, _+_, _-_, _*_, _≤_, _<_}
 use mathlib.Core.Path.{_≡_, refl, ap, _∙_}
 use mathlib.Core.List.{List, _++_}
-use native.Mathlib.Nat.{le-refl, mul-le-mul-right}
+use native.Mathlib.Nat.{le-refl}
 use native.Mathlib.Omega.{arith}
 use lib.ListN.{length, getD, length-append}
 use Rattle.format.specs.declared.Bounds.{Bounds}
@@ -53,7 +53,3 @@ numerator-start b f (suc i) = omega (arith, numerator-start b f i, length-output
 pub length-front : (word : ℕ) (g : List ℕ) (count : ℕ) → length (fourBytes word ++ coefficientBytes g count) ≡ 4 + 2 * count
 length-front word g count =
     length-append (fourBytes word) (coefficientBytes g count) ∙ ap (λ k. 4 + k) (length-coefficients g count)
-
--- "254 at most": a job has at most 31 rows, and no fewer than df + dg + 2 E + 1
-pub answer-short : (b : Bounds) → b .df + b .dg ≤ 30 → b .outputs ≤ 4 → answerLengthOf b ≤ 254
-answer-short b low few = omega (arith, mul-le-mul-right (b .df + 1) few)

@@ -2,6 +2,7 @@
 use mathlib.Core.Path.{_≡_, sym, ap, _∙_}
 use mathlib.Core.List.{List}
 use Prim.Native.Nat.{ℕ}
+use Rattle.poly.specs.Coefficients.{Stored}
 use Rattle.algebra.proofs.Euclid.{CommonDivisor, euclid-stop, euclid-step}
 use Rattle.field.proofs.Primality.{IsPrime}
 use Rattle.reciprocal.proofs.PrimeField.{residueField}
@@ -10,7 +11,7 @@ use Rattle.poly_meaning.proofs.Series.{series, series-below}
 use Rattle.poly_meaning.proofs.Degrees.{length-means-null}
 use Rattle.division.specs.Division.{remainderOf}
 use Rattle.euclid.specs.Euclid.{gcdOf}
-use Rattle.division.proofs.Leading.{Stored, stored-bounded, length-stored, divisor-of}
+use Rattle.division.proofs.Leading.{stored-bounded, length-stored, divisor-of}
 use Rattle.euclid.proofs.Euclid.{gcd-stop, gcd-more, euclid-induction}
 use Rattle.euclid_meaning.proofs.Division.{division-means}
 

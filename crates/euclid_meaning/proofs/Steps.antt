@@ -14,7 +14,7 @@ use Rattle.reciprocal.proofs.PrimeField.{Residue, residue, addR, mulR, negR, ad
 use Rattle.poly.specs.Coefficients.{at, Bounded}
 use Rattle.lists.proofs.Tabulated.{at-past}
 use Rattle.poly_meaning.proofs.Series.{series, residue-mod, tabulate-means}
-use Rattle.division.specs.Division.{shifted, cancelledAt, cancelledOf, factorOf, divisionStep, remainderFrom, quotientFrom}
+use Rattle.division.specs.Division.{shifted, cancelledAt, cancelledOf, cancelFactor, divisionStep, remainderFrom, quotientFrom}
 use Rattle.division.proofs.Cancellation.{shifted-above, length-step}
 use Rattle.division.proofs.Steps.{factor-small}
 use Rattle.euclid_meaning.proofs.Monomials.{monomial, monomial-here, monomial-other}
@@ -79,7 +79,7 @@ module _ (p : ℕ) (P : IsPrime p) where
   unfolding remainderFrom quotientFrom divisionStep
   steps-mean m i bb zero a c l size-a size-c free = refl
   steps-mean {b} m i bb (suc n) a c l size-a size-c free =
-      let k = factorOf p m i n a in
+      let k = cancelFactor p m i n a in
       let small : k < p = factor-small p b m i (let t = P .two in omega arith) n a in
       let past : (j : ℕ) → 32 ≤ j → at (shifted n b) j ≡ 0 = (λ j h. shifted-above n b j (omega arith) ∙ bb .within (j - n) (omega arith)) in
       let kept : (j : ℕ) → j < n → at (set c n k) j ≡ 0 = (λ j h. getD-set-other c n j k 0 (λ same. omega arith) ∙ free j (omega arith)) in

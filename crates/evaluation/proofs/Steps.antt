@@ -13,7 +13,7 @@ use Rattle.field.specs.declared.Prime.{Prime}
 use Rattle.field.specs.Primes.{modulusOf}
 use Rattle.field.proofs.Moduli.{modulus-positive, residue-below}
 use Rattle.montgomery.specs.Factors.{formOf}
-use Rattle.poly.specs.Coefficients.{at}
+use Rattle.poly.specs.Coefficients.{at, Stored}
 use Rattle.poly.specs.Operations.{valueOf}
 use Rattle.lists.proofs.Tabulated.{at-tabulate, at-tabulate-past, at-past, at-zeros, is-tabulate, length-tabulate}
 use Rattle.poly.proofs.Lists.{bounded-tabulate}
@@ -21,7 +21,7 @@ use Rattle.poly.proofs.Values.{value-more, value-start}
 use Rattle.lanes.specs.Lanes.{groupsOf, modulusAt, Constants, Inverses, replaced, hornerLane}
 use Rattle.lanes.proofs.Changes.{replaced-inside, replaced-behind, length-replaced}
 use Rattle.lanes_meaning.proofs.Meaning.{horner-lane}
-use Rattle.evaluation.specs.Values.{eachPoint, formsOf, valuesOf, Narrow, Formed}
+use Rattle.evaluation.specs.Values.{eachPoint, formsOf, valuesOf, Formed}
 
 module _ (f : ℕ → ℕ) (points : List ℕ) (rows : ℕ) where
   pub each-inside : (l : ℕ) → l < 32 → l < groupsOf rows → at (eachPoint f points rows) l ≡ f (at points l)
@@ -51,7 +51,7 @@ module _ (f : ℕ → ℕ) (points : List ℕ) (rows : ℕ) where
       go l h (no g) = behind l (omega arith) ∙ sym (simp (le-ltb l (groupsOf rows) (omega arith)))
 
 -- forms are below the prime
-pub narrow-forms : (q : Prime) (points : List ℕ) (rows : ℕ) → Narrow (modulusOf q) (formsOf (modulusOf q) points rows)
+pub narrow-forms : (q : Prime) (points : List ℕ) (rows : ℕ) → Stored (modulusOf q) (formsOf (modulusOf q) points rows)
 unfolding eachPoint
 narrow-forms q points rows = record {
   size = length-tabulate 32 _;
@@ -62,7 +62,7 @@ narrow-forms q points rows = record {
     low true x = residue-below q _
     low false x = modulus-positive q
 
-pub narrow-formed : (q : Prime) {rows : ℕ} {xs : List ℕ} → Formed (modulusOf q) xs rows → Narrow (modulusOf q) xs
+pub narrow-formed : (q : Prime) {rows : ℕ} {xs : List ℕ} → Formed (modulusOf q) xs rows → Stored (modulusOf q) xs
 narrow-formed q h = rw (h .is) (narrow-forms q (h .points) _)
 
 -- before the first step: no coefficient is taken

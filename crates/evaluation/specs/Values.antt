@@ -2,9 +2,8 @@
 use mathlib.Core.Path.{_≡_}
 use mathlib.Core.Bool.{cond}
 use mathlib.Core.List.{List}
-use Prim.Native.Nat.{ℕ, _<_}
+use Prim.Native.Nat.{ℕ}
 use lib.Dec.{ltb}
-use lib.ListN.{length}
 use Rattle.montgomery.specs.Factors.{formOf}
 use Rattle.lanes.specs.Lanes.{groupsOf}
 use Rattle.lists.specs.Tabulated.{tabulate}
@@ -22,11 +21,6 @@ formsOf p points rows = eachPoint (formOf p) points rows
 -- the values of a
 abbrev pub valuesOf : (p : ℕ) (points : List ℕ) (rows : ℕ) (a : List ℕ) → List ℕ
 valuesOf p points rows a = eachPoint (λ x. valueOf p x a) points rows
-
--- 32 numbers below p
-pub record Narrow (p : ℕ) (xs : List ℕ) : Type 0 where
-  pub size : length xs ≡ 32
-  pub below : (l : ℕ) → at xs l < p
 
 -- xs holds the forms of some points
 pub record Formed (p : ℕ) (xs : List ℕ) (rows : ℕ) : Type 0 where

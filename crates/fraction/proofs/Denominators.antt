@@ -7,14 +7,14 @@ use Rattle.algebra.proofs.Series.{mulS, mulS-null}
 use Rattle.reciprocal.specs.Reciprocals.{reciprocalOf}
 use Rattle.field.proofs.Primality.{IsPrime}
 use Rattle.reciprocal.proofs.PrimeField.{residueRing}
-use Rattle.poly.specs.Coefficients.{at}
+use Rattle.poly.specs.Coefficients.{at, Stored}
 use Rattle.poly.specs.Operations.{lengthOf, scaledAt, scaledOf}
 use Rattle.lists.proofs.Tabulated.{at-tabulate}
 use Rattle.poly.proofs.Lengths.{length-past}
 use Rattle.poly_meaning.proofs.Degrees.{null-length, length-means-null}
 use Rattle.division.specs.Division.{quotientOf, degreeOf, leadingReciprocal}
 use Rattle.euclid.specs.Euclid.{gcdOf}
-use Rattle.division.proofs.Leading.{Stored, stored-bounded, length-stored, divisor-of, leading-inverts}
+use Rattle.division.proofs.Leading.{stored-bounded, length-stored, divisor-of, leading-inverts}
 use Rattle.euclid.proofs.Euclid.{stored-quotient, gcd-stored, gcd-zero}
 use Rattle.euclid_meaning.proofs.Division.{exact-quotient}
 use Rattle.euclid_meaning.proofs.Euclid.{gcd-means}

@@ -1,5 +1,5 @@
 -- The enlargement rule's example meets its conditions.
-use mathlib.Core.Path.{_≡_, refl, sym, ap, subst}
+use mathlib.Core.Path.{_≡_, refl, sym, subst}
 use mathlib.Core.List.{List, [], _∷_}
 use Prim.Native.Nat.{ℕ, zero, suc, _+_, _*_, _≤_, _<_}
 use native.Mathlib.Omega.{arith}
@@ -16,9 +16,9 @@ use Rattle.job.specs.Refusals.{outcomeOf, outcomeOfRows}
 use Rattle.word.specs.Word.{countBelow}
 use Rattle.answer.specs.Bytes.{overwritten, numeratorStart}
 use Rattle.problem.specs.Rows.{wrongRow}
-use Rattle.enlargement.specs.Enlargement.{AnsweredWith, rowBytes, StandsAt, HoldsRows, sameBytes, furtherWrong, Comparable}
+use Rattle.enlargement.specs.Enlargement.{AnsweredWith, rowBytes, HoldsRows, sameBytes, furtherWrong, Comparable}
 use Rattle.hand_examples.specs.Table.{table}
-use Rattle.hand_examples.specs.Enlargement.{smaller, larger, f, g, RuleApplies, RuleSpeaks}
+use Rattle.hand_examples.specs.Enlargement.{smaller, larger, f, g, RuleSpeaks}
 use Rattle.hand_examples.proofs.Examples.{all-hold}
 
 -- a constant has no coefficient above its first

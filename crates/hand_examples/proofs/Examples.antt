@@ -23,7 +23,7 @@ use Rattle.division.specs.Division.{
   shifted,
   cancelledAt,
   cancelledOf,
-  factorOf,
+  cancelFactor,
   divisionStep,
   remainderFrom,
   quotientFrom,
@@ -51,7 +51,7 @@ use Rattle.format.specs.declared.Report.{Report}
 use Rattle.recovery.specs.Recovery.{Settled}
 use Rattle.solver.specs.Solutions.{unsolvedSolution, wordBy, countedSolution, judgedSolution}
 use Rattle.recovery_laws.proofs.Laws.{settled-unique}
-use Rattle.hand_examples.specs.Table.{Example, table, Holds, EveryHolds}
+use Rattle.hand_examples.specs.Table.{Example, table, ExampleHolds, EveryHolds}
 use Rattle.hand_examples.specs.Enlargement.{larger}
 use Rattle.hand_examples.proofs.Model.{Result, resultOf, result-settled}
 
@@ -88,7 +88,7 @@ unfolding table resultOf outcomeOf outcomeOfRows headerOf boundsOf spareBitOf fi
     countedSolution unsolvedSolution wordBy candidateAfter nextOf withFraction extendedOf withOutput raisedBelow raisedAt columnOf columnAt
     startCandidate unsolvableCandidate pairsAfter stepBy startOf smallerOf combinedOf advancedOf discrepancyOf valueOf combinationOf
     combinationAt timesLinearOf timesLinearAt scaledOf scaledAt lengthOf lengthBelow sumBelow productAt productOf unitOf numeratorOf
-    denominatorOf gcdOf gcdFrom remainderOf quotientOf leadingReciprocal degreeOf quotientFrom remainderFrom divisionStep factorOf cancelledOf
+    denominatorOf gcdOf gcdFrom remainderOf quotientOf leadingReciprocal degreeOf quotientFrom remainderFrom divisionStep cancelFactor cancelledOf
     cancelledAt shifted reciprocalOf leastFrom wrongRow wordOf countBelow coefficientBytes outputBytes
 as-expected = refl
 
@@ -100,6 +100,6 @@ pub hand-examples : EveryHolds table
 hand-examples = all-hold .1
 
 -- and a call of the recovery for a job of the table reports and leaves nothing else
-pub only-result : (e : Example) → Holds e → (area : List ℕ) → length area ≡ e .room → {r : Report} {after : List ℕ} → Settled (e .job) area r after
+pub only-result : (e : Example) → ExampleHolds e → (area : List ℕ) → length area ≡ e .room → {r : Report} {after : List ℕ} → Settled (e .job) area r after
     → (r ≡ e .report) × (after ≡ overwritten (e .bytes) area)
 only-result e h area n S = settled-unique (e .job) area S (h area n)

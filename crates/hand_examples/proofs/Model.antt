@@ -1,5 +1,5 @@
 -- What a call settles, as one definition that computes: the reader's tests, then the solver.
-use mathlib.Core.Path.{_≡_, refl, sym, _∙_, ap, subst}
+use mathlib.Core.Path.{_≡_, refl, sym, _∙_, subst}
 use mathlib.Core.Bool.{Bool, true, false}
 use mathlib.Core.List.{List, []}
 use Prim.Native.Nat.{ℕ}
@@ -19,7 +19,7 @@ use Rattle.answer.specs.Bytes.{answerBytes, overwritten}
 use Rattle.solver.specs.declared.Solution.{Solution}
 use Rattle.solver.specs.Solutions.{solutionFor}
 use Rattle.recovery.specs.Recovery.{Settled}
-use Rattle.recovery.proofs.Settling.{reading-outcome, settle-early, settle-unsolved, settle-solved}
+use Rattle.recovery.proofs.Settling.{outcome-read, settle-early, settle-unsolved, settle-solved}
 
 -- what is reported, and the bytes that are written
 pub record Result : Type 0 where
@@ -52,7 +52,7 @@ module _ (s area : List ℕ) where
 
   early : (o : Outcome) → outcomeOf s (length area) ≡ o → (o ≡ Accepted → ⊥) → Settled s area (reportOf o) area
   early o e refused =
-      let same = reading-outcome s area (readingOf s (length area)) refl ∙ e in
+      let same = outcome-read s area (readingOf s (length area)) refl ∙ e in
       subst (λ t. Settled s area (reportOf t) area) same (settle-early s area (readingOf s (length area)) refl (λ h. refused (sym same ∙ h)))
 
   late : WellFormed s (length area) → (t : Solution) → t ≡ solutionFor (boundsOf s) (jobPoints s) (jobValues s) → (b : Bool) → t .solvable ≡ b → Is (solvedBy s t b)

@@ -4,7 +4,6 @@ use mathlib.Core.Bool.{true}
 use mathlib.Core.List.{List, [], _∷_}
 use Prim.Native.Nat.{ℕ, _+_, _≤_}
 use lib.ListN.{length}
-use Rattle.format.specs.Outcomes.{recoveredReport}
 use Rattle.header.specs.Header.{boundsOf}
 use Rattle.answer.specs.Bytes.{overwritten}
 use Rattle.problem.specs.Answers.{wrongAt}

@@ -69,10 +69,10 @@ table =
     ∷ []
 
 -- what a call reports and leaves in the area, by demands 1 and 2: for every area of that length, whatever it holds
-abbrev pub Holds : Example → Type 0
-Holds e = (area : List ℕ) → length area ≡ e .room → Settled (e .job) area (e .report) (overwritten (e .bytes) area)
+abbrev pub ExampleHolds : Example → Type 0
+ExampleHolds e = (area : List ℕ) → length area ≡ e .room → Settled (e .job) area (e .report) (overwritten (e .bytes) area)
 
 -- the claim: so it is at every entry
 abbrev pub EveryHolds : List Example → Type 0
 EveryHolds [] = Unit
-EveryHolds (e ∷ es) = Holds e × EveryHolds es
+EveryHolds (e ∷ es) = ExampleHolds e × EveryHolds es

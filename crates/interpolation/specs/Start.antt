@@ -15,6 +15,6 @@ abbrev pub sidesAtStart : (first second : ℕ) → Sides
 sidesAtStart first second = record { first = sideAtStart first; second = sideAtStart second }
 
 -- row k, where xs holds the forms of the points and v is the reciprocal of the prime modulo 2^16
-abbrev pub rowAt : Prime → ℕ → (points xs : List ℕ) (rows k : ℕ) → Row
-rowAt q v points xs rows k =
+abbrev pub stepRow : Prime → ℕ → (points xs : List ℕ) (rows k : ℕ) → Row
+stepRow q v points xs rows k =
     record { prime = q; index = k; rows = rows; point = at points k; x = record { form = at xs k; low = at xs k * v % 65536 } }

@@ -5,12 +5,12 @@ ghost use Prim.Native.Nat.{ℕ, _+_, _-_, _%_, _≤_, _<_};
 ghost use mathlib.Core.Path.{_≡_};
 ghost use lib.ListN.{length};
 ghost use Rattle.field.specs.Primes.{modulusOf};
-ghost use Rattle.poly.specs.Coefficients.{at};
+ghost use Rattle.poly.specs.Coefficients.{at, Stored};
 ghost use Rattle.poly.specs.Vectors.{onePoly, zeroPoly};
 ghost use Rattle.pairs.specs.Pairs.{PairBounded, Conditions, pairsAfter, solutionOf};
-ghost use Rattle.evaluation.specs.Values.{formsOf, Narrow};
+ghost use Rattle.evaluation.specs.Values.{formsOf};
 ghost use Rattle.pair_step.specs.Held.{PairHeld, pairOf, pairsOf};
-ghost use Rattle.interpolation.specs.Start.{sidesAtStart, rowAt};
+ghost use Rattle.interpolation.specs.Start.{sidesAtStart, stepRow};
 use evaluation::PerRow;
 use field::Prime;
 use montgomery::Factor;
@@ -23,7 +23,7 @@ use poly::Poly;
 // - z at each row: the discrepancies of the pair (0, 1).
 fn negations(p: u16, z: &[u32; 32], rows: usize) -> PerRow
     requires { ⌜ (rows ≤ 32) × ((k : ℕ) → at (now z) k < p) ⌝ }
-    ensures { λ r. ⌜ ((k : ℕ) → k < rows → at (r .v) k ≡ (0 + (p - at (now (z .entry)) k)) % p) × Narrow p (r .v) ⌝ }
+    ensures { λ r. ⌜ ((k : ℕ) → k < rows → at (r .v) k ≡ (0 + (p - at (now (z .entry)) k)) % p) × Stored p (r .v) ⌝ }
 {
     let mut r = PerRow { v: [0u16; 32] };
     for k in 0..rows {
@@ -55,7 +55,7 @@ fn started(first: usize, second: usize) -> Sides
 // Row k, where v is the reciprocal of the prime modulo 2^16.
 fn row(q: Prime, v: u16, points: &[u32; 32], xs: &[u16; 32], rows: usize, k: usize) -> Row
     requires { ⌜ k < 32 ⌝ }
-    ensures { λ r. ⌜ r ≡ rowAt q v (now (points .entry)) (now (xs .entry)) rows k ⌝ }
+    ensures { λ r. ⌜ r ≡ stepRow q v (now (points .entry)) (now (xs .entry)) rows k ⌝ }
 {
     let form = xs[k];
     let low = montgomery::low(form, v);

@@ -2,7 +2,7 @@
 use mathlib.Core.Bool.{false, not}
 use mathlib.Core.List.{List}
 use mathlib.Core.Logic.{_⊎_, inl, inr}
-use mathlib.Core.Path.{_≡_, refl, sym, ap, _∙_}
+use mathlib.Core.Path.{_≡_, refl, ap, _∙_}
 use Prim.Native.Nat.{ℕ, _+_, _<_, _≤_}
 use native.Mathlib.Nat.{mul-le-mul-right}
 use native.Mathlib.Omega.{arith}
@@ -73,10 +73,6 @@ outcome-kept (Refused reason row) s = refl
 pub reading-outcome : (s : List ℕ) (area : ℕ) → readingOf s area .outcome ≡ outcomeOf s area
 reading-outcome s area = outcome-kept (outcomeOf s area) s
 
--- an accepting reading says that the job is well formed
-pub accepted-well-formed : (s : List ℕ) (area : ℕ) → readingOf s area .outcome ≡ Accepted → WellFormed s area
-accepted-well-formed s area h = sym (reading-outcome s area) ∙ h
-
--- and a well-formed job is read whole
+-- a well-formed job is read whole
 pub reading-accepted : (s : List ℕ) (area : ℕ) → WellFormed s area → readingOf s area ≡ readingWith Accepted s
 reading-accepted s area h = ap (λ (o : Outcome). readingWith o s) h

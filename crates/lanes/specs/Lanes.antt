@@ -4,14 +4,13 @@ use mathlib.Core.Bool.{cond, _&&_}
 use mathlib.Core.List.{List, _∷_}
 use Prim.Native.Nat.{ℕ, _+_, _-_, _*_, _/_, _%_, _<_}
 use lib.Dec.{leb, ltb}
-use lib.ListN.{length}
 use Rattle.field.specs.declared.Prime.{Prime}
 use Rattle.field.specs.Primes.{modulusOf}
 use Rattle.montgomery.specs.declared.Factor.{Factor}
 use Rattle.montgomery.specs.Factors.{inverseOf}
 use Rattle.reduction.specs.Reduction.{reducedOf}
 use Rattle.lists.specs.Tabulated.{tabulate}
-use Rattle.poly.specs.Coefficients.{at}
+use Rattle.poly.specs.Coefficients.{at, Stored}
 
 -- n rounded up to whole groups of eight
 abbrev pub groupsOf : ℕ → ℕ
@@ -34,9 +33,8 @@ pub record Inverses (q : Prime) (vs : List ℕ) : Type 0 where
   pub each : (k : ℕ) → k < 32 → at vs k ≡ inverseOf q
 
 -- 32 residues
-pub record Residues (ps a : List ℕ) : Type 0 where
-  pub size : length a ≡ 32
-  pub below : (k : ℕ) → at a k < modulusAt ps
+abbrev pub Residues : (ps a : List ℕ) → Type 0
+Residues ps a = Stored (modulusAt ps) a
 
 -- a with f's values from `start` on, below `end`
 unfoldable pub replaced : (start end : ℕ) (f : ℕ → ℕ) (a : List ℕ) → List ℕ

@@ -15,10 +15,10 @@ use Rattle.montgomery.specs.Factors.{inverseOf, formOf, factorOf}
 use Rattle.reduction.specs.Reduction.{reducedOf}
 use Rattle.montgomery_meaning.proofs.Products.{factor-product, form-difference}
 use Rattle.lists.specs.Tabulated.{tabulate}
-use Rattle.poly.specs.Coefficients.{at}
+use Rattle.poly.specs.Coefficients.{at, Stored}
 use Rattle.poly.specs.Operations.{combinationAt, timesLinearAt}
 use Rattle.lists.proofs.Tabulated.{is-tabulate, at-past}
-use Rattle.lanes.specs.Lanes.{groupsOf, modulusAt, Constants, Inverses, Residues, replaced, combinedLane, linearLane, differenceLane, hornerLane}
+use Rattle.lanes.specs.Lanes.{groupsOf, modulusAt, Constants, Inverses, replaced, combinedLane, linearLane, differenceLane, hornerLane}
 use Rattle.lanes.proofs.Changes.{splat, replaced-inside, replaced-before, replaced-behind, length-replaced}
 
 pub constants-are : (q : Prime) (p : ℕ) → p ≡ modulusOf q → Constants q (replicate 32 p)
@@ -28,11 +28,10 @@ pub inverses-are : (q : Prime) (v : ℕ) → v ≡ inverseOf q → Inverses q (r
 inverses-are q v e = record { each = λ k l. splat v k l ∙ e }
 
 -- an array stays one of residues where what replaces its entries is below the modulus
-pub residues-replaced : {ps a : List ℕ} (start end : ℕ) (f : ℕ → ℕ) → Residues ps a → ((k : ℕ) → k < 32 → f k < modulusAt ps)
-    → Residues ps (replaced start end f a)
-residues-replaced {ps} {a} start end f r low = record { size = length-replaced start end f a; below = λ k. go k (decLt k 32) (decLt k start) (decLt k end) }
+pub stored-replaced : {p : ℕ} {a : List ℕ} (start end : ℕ) (f : ℕ → ℕ) → Stored p a → ((k : ℕ) → k < 32 → f k < p) → Stored p (replaced start end f a)
+stored-replaced {p} {a} start end f r low = record { size = length-replaced start end f a; below = λ k. go k (decLt k 32) (decLt k start) (decLt k end) }
   where
-    go : (k : ℕ) → Dec (k < 32) → Dec (k < start) → Dec (k < end) → at (replaced start end f a) k < modulusAt ps
+    go : (k : ℕ) → Dec (k < 32) → Dec (k < start) → Dec (k < end) → at (replaced start end f a) k < p
     go k (no l) s e =
         let z = at-past (replaced start end f a) k (let n = length-replaced start end f a in omega arith) in
         let b = r .below 0 in

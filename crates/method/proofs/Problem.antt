@@ -5,10 +5,9 @@ use mathlib.Core.Logic.{_≢_}
 use Prim.Native.Nat.{ℕ, suc, _+_, _*_, _-_, _≤_, _<_}
 use native.Mathlib.Omega.{arith}
 use Rattle.algebra.proofs.Counting.{dec-all, failures, failures-zero, failures-holds, failures-fails, failures-le}
-use Rattle.algebra.proofs.Ring.{Ring, null-mul}
-use Rattle.algebra.proofs.Series.{Series, mulS}
-use Rattle.algebra.proofs.Bounds.{Below}
-use Rattle.algebra.proofs.Value.{value, value-stable, linear, linear-below, linear-one, quotientAt, quotientAt-below, factor-at-root}
+use Rattle.algebra.proofs.Ring.{Ring}
+use Rattle.algebra.proofs.Series.{Series}
+use Rattle.algebra.proofs.Value.{value}
 use Rattle.algebra.proofs.Field.{Field}
 use Rattle.algebra.proofs.Roots.{Distinct}
 use Rattle.method.proofs.Vectors.{ReducedVector, SameVector}
@@ -75,24 +74,6 @@ module _ (F : Field) where
     wrongCount-respects same row L =
         failures-le _ _ L (λ l h ok i li.
         ap (λ t. value R N t (row l .point)) (sym (same .1 i li)) ∙ ok i li ∙ ap (λ t. value R N t (row l .point) ⊗ row l .values i) (same .0))
-
-  -- at a right row of a reduced vector the denominator is not null, since u - x would divide g and every f
-  pub right-nonzero : {N n : ℕ} {bound : ℕ → ℕ} {dg : ℕ} {f : ℕ → Series R} {g : Series R} → Fits N n bound dg → ReducedVector F n bound dg f g
-      → (r : Evaluation R) → Right N n f g r → value R N g (r .point) ≢ null
-  right-nonzero {N} {n} {bound} {dg} {f} {g} fits v r ok z = one≢null (sym (linear-one R x) ∙ constant 1 (omega arith))
-    where
-      x : R .Carrier
-      x = r .point
-
-      root : (b : ℕ) (h : Series R) → Below R h (suc b) → b < N → value R N h x ≡ null → h ≡ mulS R (linear R x) (quotientAt R b h x)
-      root b h low l e = sym (factor-at-root R b h x low (sym (value-stable R (suc b) N h x low (omega arith)) ∙ e))
-
-      constant : Below R (linear R x) 1
-      constant = v .reduced (linear R x) (2, linear-below R x) (λ i. quotientAt R (bound i) (f i) x) (quotientAt R dg g x)
-          (λ i l. (bound i, quotientAt-below R _ _ (f i) x (v .numerators-below i l)))
-          (dg, quotientAt-below R _ _ g x (v .denominator-below))
-          (λ i l. root (bound i) (f i) (v .numerators-below i l) (fits .numerators i l) (ok i l ∙ ap (λ t. t ⊗ r .values i) z ∙ null-mul R _))
-          (root dg g (v .denominator-below) (fits .denominator) z)
 
   -- an answer of paper 01: a reduced vector within the bounds for which few rows are wrong
   pub record Answer (N : ℕ) (T : Problem R) (f : ℕ → Series R) (g : Series R) : Type 0 where

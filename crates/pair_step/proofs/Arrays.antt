@@ -10,7 +10,7 @@ use Rattle.field.specs.Primes.{modulusOf}
 use Rattle.field.proofs.Moduli.{modulus-positive, modulus-small}
 use Rattle.montgomery.specs.declared.Factor.{Factor}
 use Rattle.montgomery.specs.Factors.{formOf, factorOf}
-use Rattle.poly.specs.Coefficients.{at}
+use Rattle.poly.specs.Coefficients.{at, Stored}
 use Rattle.poly.specs.Operations.{timesLinearAt, timesLinearOf, combinationAt, combinationOf}
 use Rattle.poly.proofs.Bounds.{times-linear-past, bounded-times-linear, combination-past, bounded-combination}
 use Rattle.lists.proofs.Tabulated.{length-tabulate}
@@ -18,8 +18,7 @@ use Rattle.poly.proofs.Lists.{bounded-mono}
 use Rattle.pairs.specs.Pairs.{PairBounded}
 use Rattle.lanes.specs.Lanes.{groupsOf, modulusAt, Moduli, Constants, Inverses, Residues, replaced, combinedLane, linearLane, differenceLane}
 use Rattle.lanes.proofs.Changes.{replaced-inside}
-use Rattle.lanes_meaning.proofs.Meaning.{whole, residues-replaced, combined-lane, linear-lane, combined-below, difference-lane, difference-below}
-use Rattle.evaluation.specs.Values.{Narrow}
+use Rattle.lanes_meaning.proofs.Meaning.{whole, stored-replaced, combined-lane, linear-lane, combined-below, difference-lane, difference-below}
 use Rattle.pair_step.specs.declared.Side.{Side}
 use Rattle.pair_step.specs.Held.{Holds, PairHeld, pairOf}
 
@@ -42,11 +41,11 @@ bounded-held e h = record { left = h .left .bounded; right = h .right .bounded }
 
 module _ {q : Prime} {ps : List ℕ} (cs : Constants q ps) where
   -- the same bound, by the prime and by the array
-  pub residues-of : {a : List ℕ} → Narrow (modulusOf q) a → Residues ps a
+  pub residues-of : {a : List ℕ} → Stored (modulusOf q) a → Residues ps a
   residues-of h = record { size = h .size; below = λ k. rw (cs .number) (h .below k) }
 
-  narrow-of : {a : List ℕ} → Residues ps a → Narrow (modulusOf q) a
-  narrow-of h = record { size = h .size; below = λ k. rw (cs .number) at (h .below k) }
+  stored-of : {a : List ℕ} → Residues ps a → Stored (modulusOf q) a
+  stored-of h = record { size = h .size; below = λ k. rw (cs .number) at (h .below k) }
 
   pub residues-held : {n : ℕ} {a : List ℕ} → Holds (modulusOf q) n a → Residues ps a
   residues-held h = residues-of (record { size = h .size; below = h .bounded .residues })
@@ -89,7 +88,7 @@ module _ {q : Prime} {ps : List ℕ} (cs : Constants q ps) where
           record { bounded = rw er (bounded-combination (ha .bounded) (hb .bounded) d c (modulus-positive q)); size = ap length er ∙ length-tabulate 32 _ }
 
   -- the discrepancies, from the group of a row on to the last group
-  module _ (start rows : ℕ) (few : rows ≤ 31) {d : List ℕ} (nd : Narrow (modulusOf q) d) where
+  module _ (start rows : ℕ) (few : rows ≤ 31) {d : List ℕ} (nd : Stored (modulusOf q) d) where
     pub multiplied-is : {vs : List ℕ} → Inverses q vs → (xs : List ℕ) (point : ℕ) {x : ℕ} {e : List ℕ} → point < modulusOf q
         → x ≡ formOf (modulusOf q) point → e ≡ replaced (start / 8 * 8) (groupsOf rows) (differenceLane ps vs xs x d) d
         → (l y : ℕ) → start ≤ l → l < rows → at xs l ≡ formOf (modulusOf q) y → at e l ≡ (y + (modulusOf q - point)) * at d l % modulusOf q
@@ -98,9 +97,9 @@ module _ {q : Prime} {ps : List ℕ} (cs : Constants q ps) where
         ∙ replaced-inside _ _ _ d l (omega arith) (omega arith) (omega arith)
         ∙ rw ex (difference-lane cs l (omega arith) is xs y point d form (omega arith))
 
-    pub multiplied-narrow : (vs xs : List ℕ) (x : ℕ) {e : List ℕ} → e ≡ replaced (start / 8 * 8) (groupsOf rows) (differenceLane ps vs xs x d) d
-        → Narrow (modulusOf q) e
-    multiplied-narrow vs xs x er = narrow-of (rw er (residues-replaced _ _ _ (residues-of nd) (λ k l. difference-below cs k l vs xs x d)))
+    pub multiplied-stored : (vs xs : List ℕ) (x : ℕ) {e : List ℕ} → e ≡ replaced (start / 8 * 8) (groupsOf rows) (differenceLane ps vs xs x d) d
+        → Stored (modulusOf q) e
+    multiplied-stored vs xs x er = stored-of (rw er (stored-replaced _ _ _ (residues-of nd) (λ k l. difference-below cs k l vs xs x d)))
 
     pub combined-is : (u : List ℕ) (m c : ℕ) {f g : Factor} {e : List ℕ} → c < modulusOf q → f ≡ factorOf q m → g ≡ factorOf q c
         → e ≡ replaced (start / 8 * 8) (groupsOf rows) (combinedLane ps f d g u) d
@@ -110,6 +109,6 @@ module _ {q : Prime} {ps : List ℕ} (cs : Constants q ps) where
         ∙ replaced-inside _ _ _ d l (omega arith) (omega arith) (omega arith)
         ∙ rw (ef, eg) (combined-lane cs l (omega arith) m c d u (omega arith))
 
-    pub combined-narrow : (u : List ℕ) (f g : Factor) {e : List ℕ} → e ≡ replaced (start / 8 * 8) (groupsOf rows) (combinedLane ps f d g u) d
-        → Narrow (modulusOf q) e
-    combined-narrow u f g er = narrow-of (rw er (residues-replaced _ _ _ (residues-of nd) (λ k l. combined-below cs k l f g d u)))
+    pub combined-stored : (u : List ℕ) (f g : Factor) {e : List ℕ} → e ≡ replaced (start / 8 * 8) (groupsOf rows) (combinedLane ps f d g u) d
+        → Stored (modulusOf q) e
+    combined-stored u f g er = stored-of (rw er (stored-replaced _ _ _ (residues-of nd) (λ k l. combined-below cs k l f g d u)))

@@ -8,13 +8,12 @@ use native.Mathlib.Omega.{arith}
 use lib.Dec.{eqb}
 use lib.ListN.{replicate}
 use Rattle.montgomery.specs.Factors.{formOf}
-use Rattle.poly.specs.Coefficients.{at}
+use Rattle.poly.specs.Coefficients.{at, Stored}
 use Rattle.poly.specs.Operations.{timesLinearOf, combinationAt, combinationOf}
 use Rattle.poly.specs.Vectors.{onePoly, zeroPoly}
 use Rattle.lists.proofs.Tabulated.{at-past}
 use Rattle.poly.proofs.Lists.{bounded-zeros}
 use Rattle.lanes.proofs.Changes.{splat}
-use Rattle.evaluation.specs.Values.{Narrow}
 use Rattle.pairs.specs.declared.Pair.{Pair}
 use Rattle.pairs.specs.Pairs.{Pairs, PairShort, discrepancyOf, advancedOf, combinedOf, stepBy, startOf}
 use Rattle.pairs.proofs.PairLaws.{pair-is, bounded-one, Reached, reached-step}
@@ -80,7 +79,7 @@ start-held {p} {a} {b} l ea eb = (record { left = one; right = none }, record { 
     none : Holds p 1 b
     none = rw eb (record { bounded = bounded-zeros p 1 32 (omega arith); size = refl })
 
-pub ones-narrow : {p : ℕ} → 1 < p → Narrow p (replicate 32 1)
+pub ones-narrow : {p : ℕ} → 1 < p → Stored p (replicate 32 1)
 ones-narrow {p} l = record { size = refl; below = λ k. go k (decLt k 32) }
   where
     go : (k : ℕ) → Dec (k < 32) → at (replicate 32 1) k < p

@@ -8,9 +8,8 @@ use native.Mathlib.Decide.{decLt}
 use native.Mathlib.Omega.{arith}
 use lib.Dec.{eqb}
 use borrow.Author.Tests.{eq-eqb, ne-eqb, lt-ltb, le-ltb}
-use Rattle.poly.specs.Coefficients.{at}
+use Rattle.poly.specs.Coefficients.{at, Stored}
 use Rattle.lanes.specs.Lanes.{Constants, Inverses}
-use Rattle.evaluation.specs.Values.{Narrow}
 use Rattle.pair_step.specs.declared.Row.{Row}
 use Rattle.pair_step.specs.declared.Side.{Side}
 use Rattle.pair_step.specs.Held.{PairHeld, primeAt, Fits, Held, longerOf, Advanced, Cleared, Stays, Freed, lineOf, Lined}
@@ -58,14 +57,14 @@ pub record Ready (r : Row) (u : Side) (a b d : List ℕ) : Type 0 where
   pub small : u .e < 64
 
 -- what is asked for, to multiply (a, b) by (u - x)
-pub advancing : {r : Row} {ps vs xs : List ℕ} {u : Side} {a b d : List ℕ} → Constants (r .prime) ps → Inverses (r .prime) vs → Fits r → Narrow (primeAt r) xs → Ready r u a b d
-    → Constants (r .prime) ps × Inverses (r .prime) vs × Fits r × Narrow (primeAt r) xs × (u .e < 64) × (u .n < 32) × Held r u a b d
+pub advancing : {r : Row} {ps vs xs : List ℕ} {u : Side} {a b d : List ℕ} → Constants (r .prime) ps → Inverses (r .prime) vs → Fits r → Stored (primeAt r) xs → Ready r u a b d
+    → Constants (r .prime) ps × Inverses (r .prime) vs × Fits r × Stored (primeAt r) xs × (u .e < 64) × (u .n < 32) × Held r u a b d
 advancing cs is fits forms h = (cs, is, fits, forms, h .small, omega (arith, h .low, fits .there, fits .few), h .held)
 
 -- and to free (s, t) of its discrepancy by (a, b)
 pub freeing : {r : Row} {ps : List ℕ} {u w : Side} {a b d s t e : List ℕ} {n : ℕ} → Constants (r .prime) ps → Fits r → Ready r u a b d → Ready r w s t e
     → n ≡ longerOf (u .n) (w .n)
-    → Constants (r .prime) ps × Fits r × (n ≤ 32) × PairHeld (primeAt r) n a b × Narrow (primeAt r) d × PairHeld (primeAt r) n s t × Narrow (primeAt r) e
+    → Constants (r .prime) ps × Fits r × (n ≤ 32) × PairHeld (primeAt r) n a b × Stored (primeAt r) d × PairHeld (primeAt r) n s t × Stored (primeAt r) e
 freeing {u = u} {w = w} cs fits h k e =
     let long = longer-both (u .n) (w .n) in
     let short = longer-least (u .n) (w .n) _ (h .low) (k .low) in (

@@ -8,10 +8,9 @@ use lib.Dec.{eqb, leb, ltb}
 use lib.ListN.{length}
 use Rattle.field.specs.Primes.{modulusOf}
 use Rattle.montgomery.specs.Factors.{formOf, factorOf}
-use Rattle.poly.specs.Coefficients.{at, Bounded}
+use Rattle.poly.specs.Coefficients.{at, Bounded, Stored}
 use Rattle.poly.specs.Operations.{timesLinearOf, combinationAt, combinationOf}
 use Rattle.lanes.specs.Lanes.{groupsOf, replaced, combinedLane, differenceLane}
-use Rattle.evaluation.specs.Values.{Narrow}
 use Rattle.pairs.specs.declared.Pair.{Pair}
 use Rattle.pairs.specs.Pairs.{Pairs, discrepancyOf, advancedOf, combinedOf}
 use Rattle.pair_step.specs.declared.Side.{Side}
@@ -49,7 +48,7 @@ pub record Fits (r : Row) : Type 0 where
 -- a pair as the arrays hold it, and its discrepancies
 pub record Held (r : Row) (side : Side) (a b d : List ℕ) : Type 0 where
   pub pair : PairHeld (primeAt r) (side .n) a b
-  pub discrepancies : Narrow (primeAt r) d
+  pub discrepancies : Stored (primeAt r) d
 
 -- the numbers of both pairs before the row: a degree bound of at most 31, and 1 for each row at most
 pub record Beside (r : Row) (s : Sides) : Type 0 where

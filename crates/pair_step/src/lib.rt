@@ -1,9 +1,9 @@
 // docs/METHOD.md, section 1: two pairs of polynomials, and what one row does to them and to their discrepancies at all rows, changed in place.
 ghost use Prim.Native.Nat.{_≤_, _<_};
 ghost use mathlib.Core.Path.{_≡_};
+ghost use Rattle.poly.specs.Coefficients.{Stored};
 ghost use Rattle.field.specs.Primes.{modulusOf};
 ghost use Rattle.lanes.specs.Lanes.{Constants, Inverses};
-ghost use Rattle.evaluation.specs.Values.{Narrow};
 ghost use Rattle.pair_step.specs.Held.{PairHeld, Held, Beside, Fits, longerOf, keptSide, Advanced, Freed, Leads, Stepped};
 use field::Prime;
 use montgomery::Factor;
@@ -70,7 +70,7 @@ fn advance(
     b: &mut [u16; 32],
     d: &mut [u16; 32],
 ) -> Side
-    requires { ⌜ Constants (r .prime) (now ps) × Inverses (r .prime) (now vs) × Fits r × Narrow (modulusOf (r .prime)) (now xs)
+    requires { ⌜ Constants (r .prime) (now ps) × Inverses (r .prime) (now vs) × Fits r × Stored (modulusOf (r .prime)) (now xs)
         × (side .e < 64) × (side .n < 32) × Held r side (now a) (now b) (now d) ⌝ }
     ensures { λ next. ⌜ Advanced r (now (ps .entry)) (now (vs .entry)) (now (xs .entry))
         side (now (a .entry)) (now (b .entry)) (now (d .entry)) next (now (a .exit)) (now (b .exit)) (now (d .exit)) ⌝ }
@@ -104,7 +104,7 @@ fn clear(
     e: &mut [u16; 32],
 ) -> Side
     requires { ⌜ Constants (r .prime) (now ps) × Fits r × (n ≤ 32) × PairHeld (modulusOf (r .prime)) n (now a) (now b)
-        × Narrow (modulusOf (r .prime)) (now d) × PairHeld (modulusOf (r .prime)) n (now s) (now t) × Narrow (modulusOf (r .prime)) (now e) ⌝ }
+        × Stored (modulusOf (r .prime)) (now d) × PairHeld (modulusOf (r .prime)) n (now s) (now t) × Stored (modulusOf (r .prime)) (now e) ⌝ }
     ensures { λ next. ⌜ Freed r (now (ps .entry)) n (now (a .entry)) (now (b .entry)) (now (d .entry))
         side (now (s .entry)) (now (t .entry)) (now (e .entry)) next (now (s .exit)) (now (t .exit)) (now (e .exit)) ⌝ }
 {
@@ -173,7 +173,7 @@ pub fn step(
     b1: &mut [u16; 32],
     d1: &mut [u16; 32],
 ) -> Sides
-    requires { ⌜ Constants (r .prime) (now ps) × Inverses (r .prime) (now vs) × Fits r × Narrow (modulusOf (r .prime)) (now xs)
+    requires { ⌜ Constants (r .prime) (now ps) × Inverses (r .prime) (now vs) × Fits r × Stored (modulusOf (r .prime)) (now xs)
         × Beside r sides × Held r (sides .first) (now a0) (now b0) (now d0) × Held r (sides .second) (now a1) (now b1) (now d1) ⌝ }
     ensures { λ next. ⌜ Stepped r (now (ps .entry)) (now (vs .entry)) (now (xs .entry))
         sides (now (a0 .entry)) (now (b0 .entry)) (now (d0 .entry)) (now (a1 .entry)) (now (b1 .entry)) (now (d1 .entry))

@@ -13,11 +13,8 @@ use Rattle.word.specs.Word.{flagOf, countBelow}
 use Rattle.word.proofs.Words.{word-same}
 use Rattle.answer.specs.Bytes.{twoBytes, fourBytes, coefficientBytes, outputBytes, answerBytes}
 use Rattle.problem.specs.Reduced.{Divides, Same}
-use Rattle.problem.specs.Answers.{wrongAt, wrongCount, Answer, wordFor, recoveredBytes}
+use Rattle.problem.specs.Answers.{wrongAt, wrongCount, Answer, recoveredBytes}
 use Rattle.problem.proofs.Rows.{wrong-same}
-
-pub same-back : {n : ℕ} {f f' : ℕ → List ℕ} {g g' : List ℕ} → Same n f g f' g' → Same n f' g' f g
-same-back h = record { denominator = λ k. sym (h .denominator k); numerators = λ i l k. sym (h .numerators i l k) }
 
 pub count-same : (n : ℕ) (t t' : ℕ → Bool) → ((r : ℕ) → r < n → t r ≡ t' r) → countBelow n t ≡ countBelow n t'
 unfolding countBelow

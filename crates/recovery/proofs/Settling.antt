@@ -8,8 +8,7 @@ use native.Mathlib.Decide.{decLt}
 use native.Mathlib.Omega.{arith}
 use lib.ListN.{length, getD}
 use Rattle.lists.proofs.Truth.{clash}
-use Rattle.format.specs.declared.Outcome.{Outcome}
-use Rattle.format.specs.declared.Outcome.the-variants.{Accepted, Recovered, Refused}
+use Rattle.format.specs.declared.Outcome.the-variants.{Accepted}
 use Rattle.format.specs.declared.Report.{Report}
 use Rattle.format.specs.Outcomes.{refusedReport, recoveredReport, reportOf}
 use Rattle.format.specs.Bounds.{answerLengthOf, primeOf}
@@ -18,10 +17,11 @@ use Rattle.header.specs.Header.{boundsOf}
 use Rattle.rows.specs.Rows.{jobPoint, jobPoints, jobValues}
 use Rattle.job.specs.declared.reading.Reading.{Reading}
 use Rattle.job.specs.Refusals.{outcomeOf, WellFormed}
-use Rattle.job.specs.Reading.{readingWith, readingOf}
+use Rattle.job.specs.Reading.{readingOf}
 use Rattle.rows.proofs.Entries.{points-at, values-at}
 use Rattle.job.proofs.Facts.{WellFormedFacts, well-formed-facts}
 use Rattle.job.proofs.Numbers.{Early, outcome-early}
+use Rattle.job.proofs.Laws.{reading-outcome}
 use Rattle.word.specs.Word.{wrongCountOf}
 use Rattle.answer.specs.Bytes.{answerBytes, overwritten}
 use Rattle.word.proofs.Words.{word-same}
@@ -36,12 +36,6 @@ use Rattle.recovery.specs.Recovery.{RefusedEarly, Answered, RefusedUnsol
 use Rattle.solver.specs.Solutions.{unsolvedSolution, wordBy, solutionFor}
 use Rattle.recovery.proofs.Settlement.{last, numerators, denominator, unsolvable-early, unsolvable-late, solved}
 use Rattle.solver.proofs.SolutionLaws.{judged-unsolvable, judged-solvable, counted-many, counted-few}
-
--- the reader's outcome is that of the tests
-with-outcome : (o : Outcome) (s : List ℕ) → readingWith o s .outcome ≡ o
-with-outcome Accepted s = refl
-with-outcome (Recovered bytes wrong) s = refl
-with-outcome (Refused reason row) s = refl
 
 module _ (s area : List ℕ) where
   -- the report says 8 exactly if the job is well formed and has no answer
@@ -59,17 +53,12 @@ module _ (s area : List ℕ) where
       by (inr (inl A)) = ((λ n. absurd (let same = ap (λ t. t .refusal) (A .report) in omega arith)), λ u. absurd (u .1 _ _ (A .answer)))
       by (inr (inr U)) = ((λ n. (U .well-formed, U .none)), λ u. ap (λ t. t .refusal) (U .report))
 
-  pub reading-outcome : (r : Reading) → r ≡ readingOf s (length area) → r .outcome ≡ outcomeOf s (length area)
-  reading-outcome r e = ap (λ t. t .outcome) e ∙ with-outcome (outcomeOf s (length area)) s
+  pub outcome-read : (r : Reading) → r ≡ readingOf s (length area) → r .outcome ≡ outcomeOf s (length area)
+  outcome-read r e = ap (λ t. t .outcome) e ∙ reading-outcome s (length area)
 
   pub settle-early : (r : Reading) → r ≡ readingOf s (length area) → (r .outcome ≡ Accepted → ⊥) → Settled s area (reportOf (r .outcome)) area
   settle-early r e refused =
-      settled (inl (record { malformed = λ wf. refused (reading-outcome r e ∙ wf); report = ap reportOf (reading-outcome r e); untouched = refl }))
-
-  -- what an accepted job was read as
-  pub reading-accepted : (r : Reading) → r ≡ readingOf s (length area) → WellFormed s (length area)
-      → r ≡ record { outcome = Accepted; bounds = boundsOf s; points = jobPoints s; values = jobValues s }
-  reading-accepted r e wf = e ∙ ap (λ o. readingWith o s) wf
+      settled (inl (record { malformed = λ wf. refused (outcome-read r e ∙ wf); report = ap reportOf (outcome-read r e); untouched = refl }))
 
   module _ (wf : WellFormed s (length area)) where
     W : WellFormedFacts s (length area)

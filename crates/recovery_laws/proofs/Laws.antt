@@ -3,15 +3,14 @@ use mathlib.Core.Path.{_≡_, refl, sym, _∙_, ap, ap₂}
 use mathlib.Core.Logic.{_⊎_, inl, inr}
 use mathlib.Core.Bool.{Bool, true, false}
 use mathlib.Core.List.{List}
-use Prim.Native.Nat.{ℕ, _+_, _*_, _≤_, _<_}
+use Prim.Native.Nat.{ℕ, _<_}
 use native.Mathlib.Decide.{decLt}
 use native.Mathlib.Omega.{arith}
 use lib.ListN.{length}
-use Rattle.format.specs.declared.Reason.{Reason}
 use Rattle.format.specs.declared.Outcome.{Outcome}
 use Rattle.format.specs.declared.Outcome.the-variants.{Accepted, Recovered, Refused}
 use Rattle.format.specs.declared.Report.{Report}
-use Rattle.format.specs.Outcomes.{numberOf, reportOf, recoveredReport}
+use Rattle.format.specs.Outcomes.{reportOf, recoveredReport}
 use Rattle.format.specs.Bounds.{answerLengthOf}
 use Rattle.format.proofs.Numbers.{number-injective, number-positive}
 use Rattle.header.specs.Header.{boundsOf}
@@ -19,7 +18,6 @@ use Rattle.job.specs.Refusals.{outcomeOf}
 use Rattle.job.proofs.Facts.{WellFormedFacts}
 use Rattle.job.proofs.Numbers.{Early, outcome-early}
 use Rattle.answer.specs.Bytes.{overwritten}
-use Rattle.problem.specs.Reduced.{Same}
 use Rattle.problem.specs.Answers.{wrongCount, Answer, Unsolvable}
 use Rattle.problem.proofs.Same.{wrong-count-same, recovered-same}
 use Rattle.recovery.specs.Recovery.{RefusedEarly, Answered, RefusedUnsolvable, Settled}

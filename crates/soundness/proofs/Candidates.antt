@@ -1,9 +1,9 @@
 -- The candidate that the code holds after each output is a candidate in the sense of the method, or there is no answer.
 use mathlib.Core.Path.{_≡_, refl, sym, _∙_, ap, subst}
-use mathlib.Core.Logic.{_≢_, _⊎_, inl, inr}
+use mathlib.Core.Logic.{_⊎_, inl, inr}
 use mathlib.Core.Bool.{true, false, cond}
 use mathlib.Core.List.{List}
-use Prim.Native.Nat.{ℕ, zero, suc, _+_, _-_, _*_, _≤_, _<_}
+use Prim.Native.Nat.{ℕ, zero, suc, _+_, _-_, _≤_, _<_}
 use native.Mathlib.Decide.{decLt, ℕ-discrete}
 use native.Mathlib.Omega.{arith}
 use lib.ListN.{length, set}
@@ -25,9 +25,9 @@ use Rattle.method.proofs.Outputs.{
   none-if-old-numerator-too-long,
 }
 use Rattle.format.specs.declared.Bounds.{Bounds}
-use Rattle.format.specs.Bounds.{numeratorBoundOf, Sized, primeOf}
+use Rattle.format.specs.Bounds.{numeratorBoundOf, primeOf}
 use Rattle.poly.specs.declared.Poly.{Poly}
-use Rattle.poly.specs.Coefficients.{at, Bounded}
+use Rattle.poly.specs.Coefficients.{Bounded}
 use Rattle.poly.specs.Operations.{lengthBelow, lengthOf, productOf}
 use Rattle.poly.specs.Vectors.{coefficientsAt}
 use Rattle.poly.proofs.Lists.{bounded-mono}

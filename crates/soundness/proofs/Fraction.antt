@@ -14,7 +14,7 @@ use Rattle.algebra.proofs.LowestTerms.{LowestTerms, lowest-terms-of, monic-degr
 use Rattle.reciprocal.specs.Reciprocals.{reciprocalOf}
 use Rattle.field.proofs.Primality.{IsPrime}
 use Rattle.reciprocal.proofs.PrimeField.{Residue, residue, invR, residueRing, residueField}
-use Rattle.poly.specs.Coefficients.{at, Bounded}
+use Rattle.poly.specs.Coefficients.{at, Bounded, Stored}
 use Rattle.poly.specs.Operations.{lengthOf, scaledOf}
 use Rattle.poly.proofs.Lists.{bounded-mono}
 use Rattle.poly.proofs.Bounds.{bounded-scaled}
@@ -22,7 +22,7 @@ use Rattle.poly_meaning.proofs.Series.{series, series-at, scaled-means}
 use Rattle.poly_meaning.proofs.Degrees.{length-means, degree-length, null-length}
 use Rattle.division.specs.Division.{quotientOf, degreeOf, leadingReciprocal}
 use Rattle.euclid.specs.Euclid.{gcdOf}
-use Rattle.division.proofs.Leading.{Stored, stored-bounded, length-stored, Divisor, divisor-of}
+use Rattle.division.proofs.Leading.{stored-bounded, length-stored, Divisor, divisor-of}
 use Rattle.euclid.proofs.Euclid.{gcd-stored, stored-quotient}
 use Rattle.euclid_meaning.proofs.Division.{exact-quotient}
 use Rattle.euclid_meaning.proofs.Euclid.{gcd-means}

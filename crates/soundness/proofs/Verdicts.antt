@@ -14,14 +14,14 @@ use Rattle.method.proofs.CrossProduct.{conditions}
 use Rattle.method.proofs.Outputs.{none-if-psi-null}
 use Rattle.reciprocal.proofs.PrimeField.{residue, residue-mul}
 use Rattle.format.specs.declared.Bounds.{Bounds}
-use Rattle.poly.specs.Coefficients.{at}
+use Rattle.poly.specs.Coefficients.{at, Stored}
 use Rattle.poly.specs.Operations.{valueOf, lengthOf}
 use Rattle.lists.proofs.Tabulated.{at-tabulate}
 use Rattle.poly_meaning.proofs.Series.{residue-mod, value-means-bounded}
 use Rattle.poly_meaning.proofs.Degrees.{length-means-null}
 use Rattle.pairs.specs.declared.Pair.{Pair}
 use Rattle.pairs.specs.Pairs.{solutionOf}
-use Rattle.division.proofs.Leading.{Stored, bounded-stored}
+use Rattle.division.proofs.Leading.{bounded-stored}
 use Rattle.column.specs.Columns.{columnOf}
 use Rattle.format.proofs.Sizes.{denominator-low}
 use Rattle.column.proofs.Columns.{column-is, bounded-column}

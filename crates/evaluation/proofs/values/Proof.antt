@@ -5,7 +5,7 @@ use Rattle.field.proofs.Moduli.{modulus-positive, modulus-small}
 use Rattle.poly.specs.Coefficients.{at}
 use Rattle.lists.proofs.Tabulated.{at-zeros}
 use Rattle.lanes.specs.Lanes.{modulusAt, Residues}
-use Rattle.lanes_meaning.proofs.Meaning.{constants-are, inverses-are, residues-replaced, horner-below}
+use Rattle.lanes_meaning.proofs.Meaning.{constants-are, inverses-are, stored-replaced, horner-below}
 use Rattle.evaluation.specs.Values.{Evaluated}
 use Rattle.evaluation.proofs.Steps.{values-start, values-step, narrow-formed}
 use borrow.Author.Needs.{needs}
@@ -67,7 +67,7 @@ loop-again c =
     let low : at (S .args .t5 .c) (k - 1) < M .before .modulus .result = omega (arith, M .before .modulus .ensures, S .pre .2 .residues (k - 1)) in
     let size = size-of S in (
       omega arith,
-      rw e (residues-replaced _ _ _ (inv .1) (λ l h. horner-below cs l h _ _ _ _)),
+      rw e (stored-replaced _ _ _ (inv .1) (λ l h. horner-below cs l h _ _ _ _)),
       λ points h. e ∙ values-step cs is _ (S .pre .0) points (S .args .t5 .c) _ _ (k - 1) _ h (rw next (inv .2 points h)) (omega arith) refl low,
     )
 

@@ -1,6 +1,7 @@
 use mathlib.Core.Path.{_≡_, ap, ap₂, _∙_}
 use Prim.Native.Nat.{_<_}
 use native.Mathlib.Omega.{arith}
+use Rattle.poly.specs.Coefficients.{Stored}
 use Rattle.field.specs.Primes.{modulusOf}
 use Rattle.field.proofs.Moduli.{modulus-prime}
 use Rattle.poly.specs.Operations.{scaledOf, lengthOf}
@@ -8,7 +9,7 @@ use Rattle.poly.proofs.Lists.{bounded-mono}
 use Rattle.poly.proofs.Lengths.{bounded-length}
 use Rattle.division.specs.Division.{quotientOf}
 use Rattle.euclid.specs.Euclid.{gcdOf}
-use Rattle.division.proofs.Leading.{Stored, bounded-stored}
+use Rattle.division.proofs.Leading.{bounded-stored}
 use Rattle.fraction.specs.LowestTerms.{numeratorOf, denominatorOf}
 use Rattle.fraction.proofs.Denominators.{unit-is, divisor-nonzero, quotient-nonzero, denominator-nonzero}
 use borrow.Author.Needs.{needs}

@@ -4,10 +4,9 @@ use Prim.Native.Nat.{_+_, _-_, _≤_, _<_}
 use Rattle.field.specs.Primes.{modulusOf}
 use Rattle.field.proofs.Moduli.{modulus-prime, modulus-small}
 use Rattle.montgomery.proofs.Constants.{factor-at}
-use Rattle.poly.specs.Coefficients.{at}
+use Rattle.poly.specs.Coefficients.{at, Stored}
 use Rattle.pairs.proofs.PairLaws.{Reached, reached-start}
 use Rattle.lanes_meaning.proofs.Meaning.{constants-are, inverses-are}
-use Rattle.evaluation.specs.Values.{Narrow}
 use Rattle.evaluation.proofs.Steps.{at-row, narrow-forms}
 use Rattle.pair_step.specs.Held.{PairHeld, Kept, pairOf, pairsOf}
 use Rattle.pair_step.proofs.Arrays.{held-mono}
@@ -20,7 +19,7 @@ use Rattle.interpolation.proofs.after_rows.Tie as tie
 abbrev Inv-loop : tie.InvT-loop
 Inv-loop q points xs z rows a0₀ b0₀ a1₀ b1₀ p ps v vs d0₀ d1₀ s₀ k₀ a0 b0 a1 b1 d0 d1 s k =
     (k ≤ rows) × Reached (modulusOf q) points z (s₀ .second .e) (s₀ .first .e) k (k + 1) (pairsOf (pairOf a0 b0 (s .first .e)) (pairOf a1 b1 (s .second .e)))
-    × PairHeld (modulusOf q) (s .first .n) a0 b0 × PairHeld (modulusOf q) (s .second .n) a1 b1 × Narrow (modulusOf q) d0 × Narrow (modulusOf q) d1
+    × PairHeld (modulusOf q) (s .first .n) a0 b0 × PairHeld (modulusOf q) (s .second .n) a1 b1 × Stored (modulusOf q) d0 × Stored (modulusOf q) d1
     × Kept (modulusOf q) points z k rows (pairOf a0 b0 (s .first .e)) d0 × Kept (modulusOf q) points z k rows (pairOf a1 b1 (s .second .e)) d1
     × (s .first .n ≤ k + 1) × (s .second .n ≤ k + 1)
 

@@ -1,7 +1,7 @@
 use mathlib.Core.Path.{ap}
 use Prim.Native.Nat.{_+_}
 use Rattle.montgomery.specs.declared.Factor.{Factor}
-use Rattle.pair_step.proofs.Arrays.{side-is, residues-of, residues-held, form-below, linear-is, linear-held, multiplied-is, multiplied-narrow}
+use Rattle.pair_step.proofs.Arrays.{side-is, residues-of, residues-held, form-below, linear-is, linear-held, multiplied-is, multiplied-stored}
 use native.Mathlib.Omega.{arith}
 use borrow.Author.Needs.{needs}
 use Rattle.pair_step.proofs.advance.Statement.{statement}
@@ -44,7 +44,7 @@ returns c =
       exact = third .1;
       held = record {
         pair = record { left = linear-held cs (held .left) _ a; right = linear-held cs (held .right) _ b };
-        discrepancies = multiplied-narrow cs _ _ (fits .few) (S .pre .6 .discrepancies) _ _ _ (third .1);
+        discrepancies = multiplied-stored cs _ _ (fits .few) (S .pre .6 .discrepancies) _ _ _ (third .1);
       };
       each = multiplied-is cs _ _ (fits .few) (S .pre .6 .discrepancies) (S .pre .1) _ _ (fits .low) (ap (λ (f : Factor). f .form) (fits .factor)) (third .1);
     }

@@ -1,7 +1,7 @@
 use mathlib.Core.Path.{refl, _∙_}
 use mathlib.Core.Logic.{inl, inr}
 use Rattle.field.proofs.Moduli.{modulus-small}
-use Rattle.pair_step.proofs.Arrays.{side-is, residues-of, residues-held, combining, combination-is, combination-held, combined-is, combined-narrow}
+use Rattle.pair_step.proofs.Arrays.{side-is, residues-of, residues-held, combining, combination-is, combination-held, combined-is, combined-stored}
 use native.Mathlib.Omega.{arith}
 use borrow.Author.Needs.{needs}
 use Rattle.pair_step.proofs.clear.Statement.{statement}
@@ -66,7 +66,7 @@ returns-2 c =
         exact = rw (m, f) at (third .1);
         held = record {
           pair = record { left = combination-held cs (held .left) (other .left) _ _ low a; right = combination-held cs (held .right) (other .right) _ _ low b };
-          discrepancies = combined-narrow cs _ _ (S .pre .1 .few) (S .pre .6) _ _ _ (third .1);
+          discrepancies = combined-stored cs _ _ (S .pre .1 .few) (S .pre .6) _ _ _ (third .1);
         };
         each = combined-is cs _ _ (S .pre .1 .few) (S .pre .6) _ _ _ low m f (third .1);
       },

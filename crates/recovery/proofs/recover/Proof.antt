@@ -12,15 +12,15 @@ use Rattle.rows.specs.Rows.{jobPoints, jobValues}
 use Rattle.job.specs.declared.reading.Reading.{Reading}
 use Rattle.job.specs.Refusals.{WellFormed}
 use Rattle.job.proofs.Facts.{well-formed-facts}
+use Rattle.job.proofs.Laws.{reading-accepted, answer-length-most}
 use Rattle.poly.specs.Vectors.{coefficientsAt}
 use Rattle.answer.specs.Bytes.{answerBytes, overwritten}
-use Rattle.answer.proofs.Lengths.{answer-short}
 use Rattle.candidate.specs.Candidates.{Table}
 use Rattle.solver.specs.Solutions.{solutionFor}
 use Rattle.problem_meaning.proofs.AnswerMeaning.{sized}
 use Rattle.recovery.proofs.Settlement.{table}
 use Rattle.solver.proofs.SolutionLaws.{storable}
-use Rattle.recovery.proofs.Settling.{reading-outcome, reading-accepted, settle-early, settle-unsolved, settle-solved}
+use Rattle.recovery.proofs.Settling.{outcome-read, settle-early, settle-unsolved, settle-solved}
 use borrow.Author.Needs.{needs}
 use Rattle.recovery.proofs.recover.Statement.{statement}
 use Rattle.recovery.proofs.recover.Tie as tie
@@ -43,11 +43,11 @@ module _ (c : tie.After-enum-told) where
   here = c .before .before
 
   well-formed : WellFormed (job here) (length (area here))
-  well-formed = sym (reading-outcome (job here) (area here) (here .read .result) (here .read .ensures)) ∙ c .enum-told .given .1
+  well-formed = sym (outcome-read (job here) (area here) (here .read .result) (here .read .ensures)) ∙ c .enum-told .given .1
 
   accepted : here .read .result
       ≡ record { outcome = Accepted; bounds = boundsOf (job here); points = jobPoints (job here); values = jobValues (job here) }
-  accepted = reading-accepted (job here) (area here) (here .read .result) (here .read .ensures) well-formed
+  accepted = here .read .ensures ∙ reading-accepted (job here) (length (area here)) well-formed
 
 -- what the solver returned, from the job's own bytes
 solution : (v : tie.After-solve) → let d = v .before .before .before .before in
@@ -87,8 +87,7 @@ module _ (c : tie.After-slice-known2) where
 cast-bytes : tie.Need-cast-bytes
 cast-bytes c =
     let s = job (here (told c)) in
-    let W = well-formed-facts s (length (area (here (told c)))) (well-formed (told c)) in
-    let short = answer-short (boundsOf s) (let h = W .enough-rows in let n = W .fields .rows-most in omega arith) (W .fields .outputs-most) in
+    let short = answer-length-most s (length (area (here (told c)))) (well-formed (told c)) in
     omega (arith, bytes-are c)
 
 returns-3 : tie.Need-returns-3
