@@ -107,7 +107,7 @@ module _ (p : ℕ) (P : IsPrime p) where
 
     unit-means : residue p P (unitOf p phi psi) ≡ invR p P k
     unfolding unitOf leadingReciprocal k m
-    unit-means = sym (inverse-means (at h (degreeOf h)) (sh .residues (degreeOf h)))
+    unit-means = sym (inverse-means (at h (degreeOf h)) (sh .below (degreeOf h)))
 
     scaled-by-unit : (a : List ℕ) (s : Series R) → Stored p a → series p P a ≡ s
         → scaleS R (invR p P k) s ≡ series p P (scaledOf p (unitOf p phi psi) a)
