@@ -5,8 +5,9 @@
  * degree bounds that are wrong at no more than E rows, and says which rows those are; or it says that there
  * are none.
  *
- * Link target/staticlib/libcapi.a, which `rt staticlib capi` writes, for x86-64 Linux. It needs nothing beside
- * the C library. What the function promises is its contract in crates/capi/src/lib.rt, which is proved.
+ * After `bash install PREFIX`, pkg-config knows the flags as `hanthuvelo`. Without it link
+ * target/staticlib/libcapi.a, which `rt staticlib capi` writes. The archive is for x86-64 Linux and needs nothing
+ * beside the C library. What the function promises is its contract in crates/capi/src/lib.rt, which is proved.
  */
 #ifndef HANTHUVELO_H
 #define HANTHUVELO_H

@@ -8,9 +8,9 @@ mod planted;
 mod random;
 mod tally;
 
-use crate::hex;
 use crate::layout::Answer;
-use crate::library::Report;
+use hanthuvelo::hex;
+use hanthuvelo::Report;
 use planted::{planted, Planted, Shape, WrongRows};
 pub use random::Random;
 pub use tally::{Kind, Tally};
@@ -197,7 +197,7 @@ impl GeneratedJob {
         match &self.expected {
             Expected::Answered { bytes, wrong } => {
                 let written = bytes.len();
-                let fits = report == Report::answered(written as u32, *wrong)
+                let fits = report == Report::recovered(written as u32, *wrong)
                     && area[..written] == bytes[..];
                 (!fits).then(|| format!("expected {} wrong, {}", wrong, hex::text(bytes)))
             }
@@ -205,7 +205,7 @@ impl GeneratedJob {
                 .then(|| format!("expected refusal {number}, row {row}")),
             Expected::NotThis { bytes } => {
                 let other = report == Report::refused(8, 0)
-                    || report.is_answered() && area[4..bytes.len()] != bytes[4..];
+                    || report.is_recovered() && area[4..bytes.len()] != bytes[4..];
                 (!other).then(|| "answered with more than E wrong rows".to_string())
             }
             Expected::Open => None,

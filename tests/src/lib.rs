@@ -1,21 +1,19 @@
-//! Checks of the recovery library from outside: solvers written separately, generated jobs, the
-//! paper's examples, and the boundary to the library itself.
+//! Checks of the recovery library from outside: solvers written separately, generated jobs, and the
+//! paper's examples. The boundary to the library itself is the package `hanthuvelo`.
 
-#![deny(unsafe_code)]
+#![forbid(unsafe_code)]
 
 pub mod definition;
-pub mod hex;
 pub mod jobs;
+pub mod ladder;
 pub mod layout;
-pub mod library;
 pub mod paper;
 pub mod plain;
 pub mod program;
-pub mod readable;
 pub mod second;
 pub mod statements;
 
-use library::Report;
+use hanthuvelo::Report;
 
 /// One way to recover a job into an area.
 #[derive(Clone, Copy)]
@@ -30,7 +28,7 @@ pub fn implementations() -> Vec<Implementation> {
         #[cfg(feature = "library")]
         Implementation {
             name: "library",
-            recover: library::recover,
+            recover: hanthuvelo::recover,
         },
         Implementation {
             name: "plain",

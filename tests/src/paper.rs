@@ -1,6 +1,6 @@
 //! The worked examples of paper 01, typed from it.
 
-use crate::library::Report;
+use hanthuvelo::Report;
 
 /// A job of the paper with the area that it is given and what comes back.
 pub struct Example {
@@ -19,17 +19,11 @@ const fn answered(
     written: u32,
     wrong: u32,
 ) -> Example {
-    let report = Report {
-        refusal: 0,
-        row: 0,
-        written,
-        wrong,
-    };
     Example {
         name,
         job,
         area_length: written as usize,
-        report,
+        report: Report::recovered(written, wrong),
         answer,
     }
 }
@@ -41,17 +35,11 @@ const fn refused(
     number: u32,
     row: u32,
 ) -> Example {
-    let report = Report {
-        refusal: number,
-        row,
-        written: 0,
-        wrong: 0,
-    };
     Example {
         name,
         job,
         area_length,
-        report,
+        report: Report::refused(number, row),
         answer: "",
     }
 }

@@ -2,10 +2,10 @@
 //!
 //! `SEED` and `JOBS` in the environment take another run.
 
-use outside_checks::hex;
+use hanthuvelo::hex;
+use hanthuvelo::Report;
 use outside_checks::implementations;
 use outside_checks::jobs::{generate, GeneratedJob, Tally};
-use outside_checks::library::Report;
 use std::io::Write;
 use std::str::FromStr;
 

@@ -1,11 +1,11 @@
 //! Every implementation against the definition itself: all (f, g) modulo 7, tried one by one.
 
+use hanthuvelo::hex;
+use hanthuvelo::Report;
 use outside_checks::definition::{answers, candidates, for_each_list};
-use outside_checks::hex;
 use outside_checks::implementations;
 use outside_checks::jobs::Random;
 use outside_checks::layout::{Job, Row};
-use outside_checks::library::Report;
 use std::io::Write;
 
 const SEED: u64 = 31;
@@ -30,7 +30,7 @@ fn compare(job: &Job, counts: &mut Counts) {
         Some(answer) => {
             let bytes = answer.pack(job);
             expected_area[..bytes.len()].copy_from_slice(&bytes);
-            Report::answered(bytes.len() as u32, answer.word.count_ones())
+            Report::recovered(bytes.len() as u32, answer.word.count_ones())
         }
         None => Report::refused(8, 0),
     };
@@ -48,7 +48,7 @@ fn compare(job: &Job, counts: &mut Counts) {
         );
     }
     counts.jobs += 1;
-    counts.answered += usize::from(expected_report.is_answered());
+    counts.answered += usize::from(expected_report.is_recovered());
     counts.candidates += candidates(job);
 }
 

@@ -1,10 +1,10 @@
 //! The enlargement rule of paper 01 (point 5), on pairs of jobs, each handed to a call of its own.
 
-use outside_checks::hex;
+use hanthuvelo::hex;
+use hanthuvelo::Report;
 use outside_checks::jobs::enlargement::{generate, Pair};
 use outside_checks::jobs::Random;
 use outside_checks::layout::{is_right, packed_row, row_bit, Answer, Job, Row};
-use outside_checks::library::Report;
 use outside_checks::{implementations, Implementation};
 use std::io::Write;
 
@@ -86,7 +86,7 @@ fn try_pair(implementation: Implementation, pair: &Pair, random: &mut Random, co
         format!("{name}, seed {SEED}\nsmaller {smaller}\nlarger {larger}")
     };
     let first = call(implementation, &pair.smaller, random);
-    if !first.report.is_answered() {
+    if !first.report.is_recovered() {
         return;
     }
     let answer = Answer::unpack(&first.area, &pair.smaller);
@@ -97,16 +97,16 @@ fn try_pair(implementation: Implementation, pair: &Pair, random: &mut Random, co
     let (word, further_wrong) = word_by_the_rule(pair, &answer);
     let wrong = first.report.wrong as usize + further_wrong;
     let again = Answer::unpack(&second.area, &pair.larger);
-    let same = second.report.is_answered() && again.trimmed() == answer.trimmed();
+    let same = second.report.is_recovered() && again.trimmed() == answer.trimmed();
     assert_eq!(same, wrong <= pair.larger.error_bound, "{}", describe());
     if same {
         assert_eq!(again.word, word, "{}", describe());
         assert_eq!(second.report.wrong as usize, wrong, "{}", describe());
-    } else if !second.report.is_answered() {
+    } else if !second.report.is_recovered() {
         assert_eq!(second.report, Report::refused(8, 0), "{}", describe());
     }
     let bounds = [pair.smaller.error_bound, pair.larger.error_bound];
-    counts.take(pair, same, second.report.is_answered(), wrong, bounds);
+    counts.take(pair, same, second.report.is_recovered(), wrong, bounds);
     counts.further_wrong += usize::from(same && further_wrong > 0);
 }
 

@@ -1,6 +1,6 @@
 //! The examples of paper 01 against every implementation.
 
-use outside_checks::hex;
+use hanthuvelo::hex;
 use outside_checks::paper::{Example, EXAMPLES, H1_PRINTED, REFUSALS};
 use outside_checks::second;
 use outside_checks::{implementations, Implementation};

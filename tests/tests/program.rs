@@ -1,7 +1,7 @@
 //! The printing program's text against the second solver's.
 #![cfg(feature = "program")]
 
-use outside_checks::hex;
+use hanthuvelo::hex;
 use outside_checks::jobs::{generate, Random};
 use outside_checks::paper::{EXAMPLES, H1_PRINTED, REFUSALS};
 use outside_checks::program::{run, run_redirected, run_unread};

@@ -15,6 +15,14 @@ pub struct Size {
 }
 
 impl Size {
+    /// 31 rows, four outputs.
+    pub const FULL: Size = Size {
+        outputs: 4,
+        numerator_bound: 10,
+        denominator_bound: 8,
+        error_bound: 6,
+    };
+
     pub fn row_count(&self) -> usize {
         self.numerator_bound + self.denominator_bound + 2 * self.error_bound + 1
     }

@@ -2,7 +2,7 @@
 
 use super::GeneratedJob;
 use crate::layout::PRIMES;
-use crate::library::Report;
+use hanthuvelo::Report;
 
 /// What a job was made to be.
 #[derive(Clone, Copy, Debug, PartialEq, Eq)]
@@ -86,7 +86,7 @@ impl Tally {
             self.kinds[*kind as usize] += 1;
         }
         self.outcomes[report.refusal as usize] += 1;
-        if !report.is_answered() {
+        if !report.is_recovered() {
             return;
         }
         let error_bound = u32::from(job.bytes[2] >> 1 & 15);

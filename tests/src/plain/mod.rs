@@ -6,7 +6,7 @@ mod interpolate;
 mod polynomial;
 mod reader;
 
-use crate::library::Report;
+use hanthuvelo::Report;
 use interpolate::interpolate;
 use polynomial::Polynomial;
 use reader::Problem;
@@ -40,7 +40,7 @@ fn recover_modulo<const PRIME: u32>(problem: &Problem, area: &mut [u8]) -> Repor
         return Report::refused(8, 0);
     }
     let written = write_answer(problem, &fraction, word, area);
-    Report::answered(written as u32, word.count_ones())
+    Report::recovered(written as u32, word.count_ones())
 }
 
 /// One output after the other; `None` where an output already shows that there is no answer.

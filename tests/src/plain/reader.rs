@@ -1,6 +1,6 @@
 //! The job bytes and the refusals 1 to 7, into fixed arrays.
 
-use crate::library::Report;
+use hanthuvelo::Report;
 
 /// A well formed job.
 pub struct Problem {

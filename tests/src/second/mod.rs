@@ -9,8 +9,8 @@ pub mod polynomial;
 mod reader;
 mod text;
 
-use crate::library::Report;
 pub use field::Field;
+use hanthuvelo::Report;
 use polynomial::Polynomial;
 use reader::{Problem, Row};
 pub use text::printed;
@@ -38,7 +38,7 @@ pub fn recover(job: &[u8], area: &mut [u8]) -> Report {
     };
     let bytes = answer_bytes(&problem, &solution);
     area[..bytes.len()].copy_from_slice(&bytes);
-    Report::answered(bytes.len() as u32, solution.wrong_rows.len() as u32)
+    Report::recovered(bytes.len() as u32, solution.wrong_rows.len() as u32)
 }
 
 /// The answer of a well formed job, or `None` where there is none.

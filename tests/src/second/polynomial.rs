@@ -63,6 +63,12 @@ impl Polynomial {
         )
     }
 
+    pub fn minus(&self, other: &Polynomial, field: Field) -> Polynomial {
+        let length = self.coefficients.len().max(other.coefficients.len());
+        let difference = |power| field.subtract(self.coefficient(power), other.coefficient(power));
+        Polynomial::new((0..length).map(difference).collect())
+    }
+
     pub fn times(&self, other: &Polynomial, field: Field) -> Polynomial {
         let mut product = vec![0; self.coefficients.len() + other.coefficients.len()];
         for (i, &left) in self.coefficients.iter().enumerate() {

@@ -74,7 +74,7 @@ fn type_lines<'a>(lines: &[&'a str]) -> Vec<&'a str> {
     let ends = |line: &&str| {
         *line == "}" || line.ends_with(';') || (line.ends_with('}') && !line.starts_with(' '))
     };
-    let end = lines.iter().position(|line| ends(line)).unwrap_or(0);
+    let end = lines.iter().position(ends).unwrap_or(0);
     lines[..=end].to_vec()
 }
 

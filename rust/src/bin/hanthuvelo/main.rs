@@ -1,0 +1,117 @@
+//! The command `hanthuvelo`: jobs recovered, packed and shown for people.
+
+mod arguments;
+mod convert;
+mod input;
+mod job_stream;
+mod output;
+mod pieces;
+mod pool;
+mod progress;
+mod recover;
+mod render;
+mod results;
+
+use output::Failure;
+use std::ffi::OsString;
+use std::process::ExitCode;
+
+/// What a verb came to, by its exit status.
+#[derive(Clone, Copy, PartialEq, Eq)]
+enum Status {
+    Done = 0,
+    Refused = 1,
+    Failed = 2,
+}
+
+struct Verb {
+    name: &'static str,
+    summary: &'static str,
+    help: &'static str,
+    run: fn(&[OsString]) -> Result<Status, Failure>,
+}
+
+const VERBS: [Verb; 4] = [
+    Verb {
+        name: "recover",
+        summary: "the fractions and the wrong rows of jobs",
+        help: recover::HELP,
+        run: recover::run,
+    },
+    Verb {
+        name: "pack",
+        summary: "jobs as bytes, back to back",
+        help: convert::PACK_HELP,
+        run: convert::pack,
+    },
+    Verb {
+        name: "show",
+        summary: "jobs as readable text",
+        help: convert::SHOW_HELP,
+        run: convert::show,
+    },
+    Verb {
+        name: "unpack",
+        summary: "the bytes of an answer as text",
+        help: convert::UNPACK_HELP,
+        run: convert::unpack,
+    },
+];
+
+const ABOUT: &str = "\
+hanthuvelo: exact fractions over one denominator, from values modulo a prime of which some are wrong
+
+usage: hanthuvelo VERB [OPTION].. FILE..
+       hanthuvelo VERB --help
+       hanthuvelo --version
+";
+
+const STATUS: &str = "
+FILE is a job as bytes, or a readable one, told apart by its bytes; - is standard input.
+Exit status: 0 done; 1 a job was refused; 2 bad use, or an input that cannot be read.
+";
+
+fn main() -> ExitCode {
+    let words: Vec<OsString> = std::env::args_os().skip(1).collect();
+    let status = run(&words).unwrap_or_else(|failure| {
+        if let Some(message) = failure.message() {
+            output::say(&message);
+        }
+        Status::Failed
+    });
+    ExitCode::from(status as u8)
+}
+
+fn run(words: &[OsString]) -> Result<Status, Failure> {
+    let Some((first, rest)) = words.split_first() else {
+        return Err(Failure::bad_use(help()));
+    };
+    let first = first.to_string_lossy();
+    if let Some(verb) = VERBS.iter().find(|verb| verb.name == first) {
+        let asks_help = |word: &&OsString| *word == "--help" || *word == "-h";
+        let options = rest.iter().take_while(|word| *word != "--");
+        if options.clone().any(|word| asks_help(&word)) {
+            return output::print(verb.help.as_bytes());
+        }
+        return (verb.run)(rest).map_err(|failure| failure.of_verb(verb.name));
+    }
+    match &*first {
+        "--help" | "-h" | "help" => output::print(help().as_bytes()),
+        "--version" => {
+            output::print(concat!("hanthuvelo ", env!("CARGO_PKG_VERSION"), "\n").as_bytes())
+        }
+        _ => {
+            let names: Vec<&str> = VERBS.iter().map(|verb| verb.name).collect();
+            let expected = format!("expected a verb of {}", names.join(", "));
+            Err(Failure::bad_use(format!(
+                "hanthuvelo: {expected}, found `{first}`"
+            )))
+        }
+    }
+}
+
+fn help() -> String {
+    let line = |verb: &Verb| format!("  {:<9}{}\n", verb.name, verb.summary);
+    let verbs: String = VERBS.iter().map(line).collect();
+    format!("{ABOUT}\n{verbs}{STATUS}")
+}

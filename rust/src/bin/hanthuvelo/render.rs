@@ -1,0 +1,161 @@
+//! What is printed of a job: for people, or as an object of JSON for programs.
+
+use crate::input::InputError;
+use hanthuvelo::{trimmed, Answer, FormatError, Job, Refusal};
+use std::fmt::{Display, Formatter};
+
+/// Where a job stands.
+pub struct Place<'a> {
+    pub file: &'a str,
+    /// In a stream: the job's number there, and the byte where it begins, both counted from 0.
+    pub in_stream: Option<(u64, u64)>,
+}
+
+impl Place<'_> {
+    /// A file that is one job.
+    pub fn of(file: &str) -> Place<'_> {
+        let in_stream = None;
+        Place { file, in_stream }
+    }
+}
+
+impl Display for Place<'_> {
+    fn fmt(&self, formatter: &mut Formatter<'_>) -> std::fmt::Result {
+        formatter.write_str(self.file)?;
+        match self.in_stream {
+            Some((job, byte)) => write!(formatter, ", job {job} at byte {byte}"),
+            None => Ok(()),
+        }
+    }
+}
+
+/// A recovered job.
+pub struct Recovered {
+    job: Job,
+    answer: Answer,
+}
+
+impl Recovered {
+    /// The job in `bytes` with the answer that was written for it.
+    pub fn read(bytes: &[u8], written: &[u8]) -> Result<Recovered, FormatError> {
+        let job = Job::unpack(bytes)?;
+        let answer = Answer::unpack(written, job.bounds(), job.rows().len())?;
+        Ok(Recovered { job, answer })
+    }
+
+    /// Each wrong row with its point.
+    fn wrong_rows(&self) -> Vec<(usize, u16)> {
+        let rows = self.job.rows();
+        let with_point = |row: usize| rows.get(row).map(|found| (row, found.point));
+        let wrong = self.answer.wrong_rows();
+        wrong.into_iter().filter_map(with_point).collect()
+    }
+
+    pub fn text(&self, place: &Place) -> String {
+        let prime = self.job.bounds().prime.value();
+        let mut text = format!("{place}: recovered modulo {prime}\n");
+        for output in 0..self.answer.numerators.len() {
+            let fraction = self.answer.fraction(output);
+            text += &format!("  f{} = {fraction}\n", output + 1);
+        }
+        let with_point = |(row, point)| format!("{row} (u = {point})");
+        let rows: Vec<String> = self.wrong_rows().into_iter().map(with_point).collect();
+        text + &format!("  wrong rows: {}\n", listed(&rows))
+    }
+
+    pub fn json(&self, place: &Place) -> String {
+        let prime = self.job.bounds().prime.value();
+        let with_point = |(row, point)| format!("{{\"row\":{row},\"point\":{point}}}");
+        let wrong: Vec<String> = self.wrong_rows().into_iter().map(with_point).collect();
+        let g = json_polynomial(&self.answer.denominator);
+        let f = self.answer.numerators.iter();
+        let f: Vec<String> = f.map(|each| json_polynomial(each)).collect();
+        let (f, wrong) = (f.join(","), wrong.join(","));
+        json_object(
+            place,
+            "recovered",
+            &format!("\"prime\":{prime},\"g\":{g},\"f\":[{f}],\"wrong\":[{wrong}]"),
+        )
+    }
+}
+
+/// `none` for an empty list.
+pub fn listed(items: &[String]) -> String {
+    match items.len() {
+        0 => "none".to_string(),
+        _ => items.join(", "),
+    }
+}
+
+pub fn refused_text(place: &Place, refusal: &Refusal) -> String {
+    format!("{place}: {refusal}\n")
+}
+
+pub fn refused_json(place: &Place, refusal: &Refusal) -> String {
+    let (number, row) = (refusal.number, refusal.row);
+    let reason = json_string(&refusal.reason);
+    json_object(
+        place,
+        "refused",
+        &format!("\"refusal\":{number},\"row\":{row},\"reason\":{reason}"),
+    )
+}
+
+pub fn unreadable_json(error: &InputError) -> String {
+    let place = Place {
+        file: &error.file,
+        in_stream: error.in_stream,
+    };
+    let line = match error.line {
+        Some(line) => format!("\"line\":{line},"),
+        None => String::new(),
+    };
+    let message = json_string(&error.message);
+    json_object(
+        &place,
+        "unreadable",
+        &format!("{line}\"message\":{message}"),
+    )
+}
+
+fn json_object(place: &Place, status: &str, rest: &str) -> String {
+    let file = json_string(place.file);
+    let stream = match place.in_stream {
+        Some((job, byte)) => format!("\"job\":{job},\"byte\":{byte},"),
+        None => String::new(),
+    };
+    format!("{{\"file\":{file},{stream}\"status\":\"{status}\",{rest}}}\n")
+}
+
+/// Coefficients from the constant term to the degree; zero is `[0]`.
+fn json_polynomial(coefficients: &[u16]) -> String {
+    let shown = match trimmed(coefficients) {
+        [] => &[0],
+        shown => shown,
+    };
+    let shown: Vec<String> = shown.iter().map(u16::to_string).collect();
+    format!("[{}]", shown.join(","))
+}
+
+fn json_string(text: &str) -> String {
+    let mut string = String::from("\"");
+    for character in text.chars() {
+        match character {
+            '"' | '\\' => string.extend(['\\', character]),
+            control if control < ' ' => string += &format!("\\u{:04x}", u32::from(control)),
+            other => string.push(other),
+        }
+    }
+    string.push('"');
+    string
+}
+
+#[cfg(test)]
+mod tests {
+    use super::json_string;
+
+    #[test]
+    fn strings_are_escaped() {
+        assert_eq!(json_string("a \"b\" \\ ü\n"), r#""a \"b\" \\ ü\u000a""#);
+    }
+}

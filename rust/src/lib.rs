@@ -1,0 +1,96 @@
+//! Hanthuvelo: exact fractions f1/g .. fn/g over one denominator, from values modulo a prime of which some are wrong.
+//!
+//! A [`Job`] has rows, each a point and n values, and bounds: for the degrees of the f and of g, and for how many rows may
+//! be wrong. The library returns **the** reduced fractions within the bounds and exactly the wrong rows ([`Answer`]), or a
+//! numbered [`Refusal`]. What it returns is proved to be that, for every input; this crate is the boundary to it, with the
+//! formats of a job and of an answer, and is tested.
+//!
+//! ```
+//! # #[cfg(feature = "library")] {
+//! use hanthuvelo::Job;
+//!
+//! // Three readings of a constant modulo 7, of which one may be wrong.
+//! let job: Job = "prime 7 outputs 1 df 0 dg 0 errors 1
+//!     0: 5
+//!     1: 5
+//!     2: 2"
+//!     .parse()
+//!     .expect("a readable job");
+//! let answer = job.recover().expect("an answer");
+//! assert_eq!(answer.fraction(0), "5");
+//! assert_eq!(answer.wrong_rows(), [2]);
+//!
+//! // With the readings 5, 4, 2 no constant is wrong at one row only.
+//! let job: Job = "prime 7 outputs 1 df 0 dg 0 errors 1\n0: 5\n1: 4\n2: 2".parse().expect("a readable job");
+//! let refusal = job.recover().expect_err("no answer");
+//! assert_eq!((refusal.number, refusal.row), (8, 0));
+//! assert_eq!(refusal.to_string(), "refused 8: no reduced answer within df 0 and dg 0 has at most 1 wrong row");
+//! # }
+//! ```
+//!
+//! [`recover`] is the call itself, on any bytes and any area, as the C header declares it.
+
+#![deny(unsafe_code)]
+#![warn(missing_docs)]
+
+mod answer;
+#[cfg(feature = "library")]
+mod call;
+pub mod hex;
+mod job;
+pub mod readable;
+mod refusal;
+
+pub use answer::{polynomial_text, trimmed, Answer};
+#[cfg(feature = "library")]
+pub use call::recover;
+pub use job::{Bounds, FormatError, Header, Job, Prime, Row};
+pub use refusal::Refusal;
+
+/// The most bytes that a job can have: 31 rows, four outputs.
+pub const LONGEST_JOB: usize = 313;
+/// The most bytes that an answer can have; an area of this length is never refused as too short.
+pub const LONGEST_ANSWER: usize = 254;
+
+/// What a call of the recovery returns.
+///
+/// A recovered job has `refusal` 0 and `row` 0; a refused one has `written` 0 and `wrong` 0.
+#[repr(C)]
+#[derive(Clone, Copy, Debug, PartialEq, Eq)]
+pub struct Report {
+    /// The refusal's number, 1 to 8; 0 where the job is recovered.
+    pub refusal: u32,
+    /// The row that refusal 5 or 6 speaks of, counted from 0; else 0.
+    pub row: u32,
+    /// The number of bytes written to the area.
+    pub written: u32,
+    /// The number of wrong rows.
+    pub wrong: u32,
+}
+
+impl Report {
+    /// The report of a job that is refused with this number, speaking of this row.
+    pub const fn refused(number: u32, row: u32) -> Report {
+        Report {
+            refusal: number,
+            row,
+            written: 0,
+            wrong: 0,
+        }
+    }
+
+    /// The report of a job that is recovered: so many bytes, so many wrong rows.
+    pub const fn recovered(written: u32, wrong: u32) -> Report {
+        Report {
+            refusal: 0,
+            row: 0,
+            written,
+            wrong,
+        }
+    }
+
+    /// Whether the area begins with an answer.
+    pub fn is_recovered(&self) -> bool {
+        self.refusal == 0
+    }
+}

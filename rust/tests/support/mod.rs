@@ -1,0 +1,106 @@
+//! Runs the command from the repository's root.
+#![allow(dead_code)] // Each test file has a copy of its own and uses a part.
+
+use outside_checks::jobs::generate;
+use std::fs;
+use std::io::Write;
+use std::path::{Path, PathBuf};
+use std::process::{Child, Command, Output, Stdio};
+use std::thread;
+
+pub const ROOT: &str = concat!(env!("CARGO_MANIFEST_DIR"), "/..");
+pub const COMMAND: &str = env!("CARGO_BIN_EXE_hanthuvelo");
+
+/// What a run came to.
+pub struct Run {
+    pub status: i32,
+    pub out: Vec<u8>,
+    pub text: String,
+    pub said: String,
+}
+
+impl Run {
+    pub fn of(output: Output) -> Run {
+        let said = String::from_utf8_lossy(&output.stderr).into_owned();
+        assert!(!said.contains("panicked"), "{said}");
+        Run {
+            status: output.status.code().unwrap_or(-1),
+            text: String::from_utf8_lossy(&output.stdout).into_owned(),
+            out: output.stdout,
+            said,
+        }
+    }
+}
+
+/// The command with these words; its input and outputs are pipes.
+pub fn command(words: &[&str]) -> Command {
+    let mut command = Command::new(COMMAND);
+    command
+        .args(words)
+        .current_dir(ROOT)
+        .stdin(Stdio::piped())
+        .stdout(Stdio::piped())
+        .stderr(Stdio::piped());
+    command
+}
+
+/// Runs the command on an input.
+pub fn run_on(words: &[&str], input: &[u8]) -> Run {
+    let mut child = command(words).spawn().expect("the command starts");
+    feed(&mut child, input.to_vec());
+    Run::of(child.wait_with_output().expect("the command ends"))
+}
+
+pub fn run(words: &[&str]) -> Run {
+    run_on(words, &[])
+}
+
+/// Writes an input beside whatever else goes on, and closes it; the command may close it first.
+pub fn feed(child: &mut Child, input: Vec<u8>) {
+    let mut pipe = child.stdin.take().expect("a pipe");
+    thread::spawn(move || {
+        let _ = pipe.write_all(&input);
+    });
+}
+
+/// Runs the command with a redirection in the shell's words.
+pub fn run_redirected(words: &str, redirection: &str) -> Run {
+    let output = Command::new("sh")
+        .arg("-c")
+        .arg(format!("exec \"$0\" {words} {redirection}"))
+        .arg(COMMAND)
+        .current_dir(ROOT)
+        .output();
+    Run::of(output.expect("a shell"))
+}
+
+/// An empty folder of a test's own.
+pub fn folder(name: &str) -> PathBuf {
+    let folder = Path::new(env!("CARGO_TARGET_TMPDIR")).join(name);
+    let _ = fs::remove_dir_all(&folder);
+    fs::create_dir_all(&folder).expect("a folder");
+    folder
+}
+
+/// A file in it.
+pub fn file(folder: &Path, name: &str, bytes: &[u8]) -> String {
+    let path = folder.join(name);
+    fs::write(&path, bytes).expect("a file");
+    path.to_str().expect("a plain name").to_string()
+}
+
+/// The length of the job that bytes begin with, counted from paper 01's formula.
+pub fn length_by_header(bytes: &[u8]) -> Option<usize> {
+    let (first, second) = (*bytes.first()?, *bytes.get(1)?);
+    bytes.get(2)?;
+    let rows = usize::from(first % 16) * 2 + usize::from(second / 128);
+    let outputs = usize::from(first / 16 % 4) + 1;
+    Some(3 + 2 * rows * (1 + outputs))
+}
+
+/// Generated jobs that can stand in a stream, many of them refused for what is in them.
+pub fn stream_jobs(seed: u64, count: usize) -> Vec<Vec<u8>> {
+    let jobs = (0..).map(|index| generate(seed, index).bytes);
+    let fits = |job: &Vec<u8>| length_by_header(job) == Some(job.len());
+    jobs.filter(fits).take(count).collect()
+}
