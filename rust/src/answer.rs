@@ -65,7 +65,9 @@ impl Answer {
         (0..32).filter(is_wrong).collect()
     }
 
-    /// An output, counted from 0, as people write it: `(1 + 2 u) / (15 + 89 u + u^2)`. Without a denominator where that is 1.
+    /// An output as people write it: `(1 + 2 u) / (15 + 89 u + u^2)`, without a denominator where that is 1.
+    ///
+    /// Outputs count from 0; one that does not exist is a panic, as for any index.
     pub fn fraction(&self, output: usize) -> String {
         let above = &self.numerators[output];
         match (trimmed(above), trimmed(&self.denominator)) {

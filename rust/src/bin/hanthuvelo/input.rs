@@ -24,11 +24,13 @@ pub enum Form {
 impl Form {
     pub fn from(arguments: &Arguments) -> Result<Form, Failure> {
         arguments.exclude("--readable", "--binary")?;
-        Ok(match () {
-            () if arguments.has("--readable") => Form::Readable,
-            () if arguments.has("--binary") => Form::Binary,
-            () => Form::ByItsBytes,
-        })
+        if arguments.has("--readable") {
+            Ok(Form::Readable)
+        } else if arguments.has("--binary") {
+            Ok(Form::Binary)
+        } else {
+            Ok(Form::ByItsBytes)
+        }
     }
 }
 

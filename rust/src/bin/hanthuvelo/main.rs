@@ -88,9 +88,8 @@ fn run(words: &[OsString]) -> Result<Status, Failure> {
     };
     let first = first.to_string_lossy();
     if let Some(verb) = VERBS.iter().find(|verb| verb.name == first) {
-        let asks_help = |word: &&OsString| *word == "--help" || *word == "-h";
-        let options = rest.iter().take_while(|word| *word != "--");
-        if options.clone().any(|word| asks_help(&word)) {
+        let mut options = rest.iter().take_while(|word| *word != "--");
+        if options.any(|word| word == "--help" || word == "-h") {
             return output::print(verb.help.as_bytes());
         }
         return (verb.run)(rest).map_err(|failure| failure.of_verb(verb.name));

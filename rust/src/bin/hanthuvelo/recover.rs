@@ -5,7 +5,7 @@ use crate::input::Form;
 use crate::output::{self, Failure};
 use crate::pieces::Pieces;
 use crate::progress::{Progress, Tally};
-use crate::results::{work_off, Format, Results};
+use crate::results::{work_off, Format, Results, Target};
 use crate::{pool, Status};
 use std::ffi::OsString;
 use std::fs::File;
@@ -129,8 +129,8 @@ impl Sink {
     /// Whether more can be taken.
     fn take(&mut self, results: Results) -> bool {
         self.progress.make_room();
-        for (is_error, bytes) in results.stretches {
-            if is_error {
+        for (target, bytes) in results.stretches {
+            if target == Target::Error {
                 self.progress.clear();
                 let _ = io::stderr().write_all(&bytes);
             } else if let Err(error) = self.output.write_all(&bytes) {

@@ -17,6 +17,15 @@ impl Place<'_> {
         let in_stream = None;
         Place { file, in_stream }
     }
+
+    pub fn error(&self, error: &FormatError) -> InputError {
+        InputError {
+            file: self.file.to_string(),
+            line: None,
+            in_stream: self.in_stream,
+            message: error.to_string(),
+        }
+    }
 }
 
 impl Display for Place<'_> {

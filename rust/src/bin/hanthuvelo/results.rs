@@ -7,6 +7,7 @@ use crate::progress::Tally;
 use crate::render::{self, Place, Recovered};
 use hanthuvelo::{hex, Refusal, LONGEST_ANSWER};
 
+/// What is wanted of the recovered jobs.
 #[derive(Clone, Copy)]
 pub enum Format {
     Text,
@@ -15,74 +16,73 @@ pub enum Format {
     Hex,
 }
 
+#[derive(Clone, Copy, PartialEq, Eq)]
+pub enum Target {
+    Output,
+    Error,
+}
+
 /// What is written for a piece, in order, with what became of its jobs.
 #[derive(Default)]
 pub struct Results {
-    /// Each stretch with whether it goes to standard error.
-    pub stretches: Vec<(bool, Vec<u8>)>,
+    pub stretches: Vec<(Target, Vec<u8>)>,
     pub tally: Tally,
 }
 
 impl Results {
-    fn stretch(&mut self, is_error: bool) -> &mut Vec<u8> {
-        if self.stretches.last().is_none_or(|last| last.0 != is_error) {
-            self.stretches.push((is_error, Vec::new()));
+    fn add(&mut self, target: Target, bytes: &[u8]) {
+        match self.stretches.last_mut() {
+            Some((last, stretch)) if *last == target => stretch.extend(bytes),
+            _ => self.stretches.push((target, bytes.to_vec())),
         }
-        let last = self.stretches.len() - 1;
-        &mut self.stretches[last].1
-    }
-
-    fn add(&mut self, is_error: bool, text: &str) {
-        self.stretch(is_error).extend(text.as_bytes());
     }
 
     fn add_unreadable(&mut self, error: &InputError, format: Format) {
         self.tally.unreadable += 1;
-        self.add(true, &format!("{error}\n"));
+        self.add(Target::Error, format!("{error}\n").as_bytes());
         if matches!(format, Format::Json) {
-            self.add(false, &render::unreadable_json(error));
+            let object = render::unreadable_json(error);
+            self.add(Target::Output, object.as_bytes());
         }
     }
 
-    /// Recovers a job; its answer is written straight to the output where the bytes are wanted.
+    /// Recovers a job.
     fn add_job(&mut self, place: &Place, job: &[u8], format: Format) {
-        if matches!(format, Format::Bytes) {
-            let output = self.stretch(false);
-            let before = output.len();
-            output.resize(before + LONGEST_ANSWER, 0);
-            let report = hanthuvelo::recover(job, &mut output[before..]);
-            output.truncate(before + report.written as usize);
-            return self.count(Refusal::of(report, job), place, format);
-        }
         let mut area = [0; LONGEST_ANSWER];
         let report = hanthuvelo::recover(job, &mut area);
-        if report.is_recovered() {
-            self.add_answer(place, job, &area[..report.written as usize], format);
+        match Refusal::of(report, job) {
+            Some(refusal) => self.add_refusal(place, &refusal, format),
+            None => self.add_answer(place, job, &area[..report.written as usize], format),
         }
-        self.count(Refusal::of(report, job), place, format);
     }
 
     fn add_answer(&mut self, place: &Place, job: &[u8], written: &[u8], format: Format) {
-        let text = match (format, Recovered::read(job, written)) {
-            (Format::Bytes | Format::Hex, _) => hex::text(written) + "\n",
-            (Format::Text, Ok(recovered)) => recovered.text(place),
-            (Format::Json, Ok(recovered)) => recovered.json(place),
-            (_, Err(error)) => return self.add(true, &format!("{place}: {error}\n")),
+        let text = match format {
+            Format::Bytes => {
+                self.tally.recovered += 1;
+                return self.add(Target::Output, written);
+            }
+            Format::Hex => Ok(hex::text(written) + "\n"),
+            Format::Text => Recovered::read(job, written).map(|read| read.text(place)),
+            Format::Json => Recovered::read(job, written).map(|read| read.json(place)),
         };
-        self.add(false, &text);
+        match text {
+            Ok(text) => {
+                self.tally.recovered += 1;
+                self.add(Target::Output, text.as_bytes());
+            }
+            Err(error) => self.add_unreadable(&place.error(&error), format),
+        }
     }
 
-    fn count(&mut self, refusal: Option<Refusal>, place: &Place, format: Format) {
-        let Some(refusal) = refusal else {
-            self.tally.recovered += 1;
-            return;
-        };
+    fn add_refusal(&mut self, place: &Place, refusal: &Refusal, format: Format) {
         self.tally.refused += 1;
-        match format {
-            Format::Json => self.add(false, &render::refused_json(place, &refusal)),
-            Format::Text => self.add(false, &render::refused_text(place, &refusal)),
-            Format::Bytes | Format::Hex => self.add(true, &render::refused_text(place, &refusal)),
-        }
+        let (target, text) = match format {
+            Format::Json => (Target::Output, render::refused_json(place, refusal)),
+            Format::Text => (Target::Output, render::refused_text(place, refusal)),
+            Format::Bytes | Format::Hex => (Target::Error, render::refused_text(place, refusal)),
+        };
+        self.add(target, text.as_bytes());
     }
 }
 
