@@ -101,8 +101,9 @@ fn answer_bytes(file: &OsStr, is_hex: bool) -> Result<Vec<u8>, Failure> {
 
 fn answer_text(answer: &Answer) -> String {
     let rows: Vec<String> = answer.wrong_rows().iter().map(usize::to_string).collect();
+    let rows = listed(&rows, " ");
     let denominator = polynomial_text(&answer.denominator);
-    let mut text = format!("wrong rows: {}\ng = {denominator}\n", listed(&rows));
+    let mut text = format!("wrong rows: {rows}\ng = {denominator}\n");
     for (index, numerator) in answer.numerators.iter().enumerate() {
         text += &format!("f{} = {}\n", index + 1, polynomial_text(numerator));
     }

@@ -69,7 +69,7 @@ impl Recovered {
         }
         let with_point = |(row, point)| format!("{row} (u = {point})");
         let rows: Vec<String> = self.wrong_rows().into_iter().map(with_point).collect();
-        text + &format!("  wrong rows: {}\n", listed(&rows))
+        text + &format!("  wrong rows: {}\n", listed(&rows, ", "))
     }
 
     pub fn json(&self, place: &Place) -> String {
@@ -89,10 +89,10 @@ impl Recovered {
 }
 
 /// `none` for an empty list.
-pub fn listed(items: &[String]) -> String {
+pub fn listed(items: &[String], separator: &str) -> String {
     match items.len() {
         0 => "none".to_string(),
-        _ => items.join(", "),
+        _ => items.join(separator),
     }
 }
 
