@@ -228,89 +228,82 @@ fn help_and_version_are_printed() {
     assert_eq!(run(&[]).status, 2);
 }
 
+/// Words behind `hanthuvelo`, the verb first, and what is said of them.
+const BAD_WORDS: [(&str, &str); 15] = [
+    ("recover", "expected a file"),
+    ("recover --jsn x", "unknown option `--jsn`"),
+    (
+        "recover --json --bytes x",
+        "--json and --bytes exclude each other",
+    ),
+    ("recover --hex x", "expected --bytes beside --hex"),
+    (
+        "recover --stream --readable x",
+        "--stream and --readable exclude each other",
+    ),
+    (
+        "recover --readable --binary x",
+        "--readable and --binary exclude each other",
+    ),
+    ("recover --threads", "expected a value behind --threads"),
+    (
+        "recover --threads 0 x",
+        "expected a number from 1 to 1024 behind --threads, found `0`",
+    ),
+    ("recover - -", "expected - once at most"),
+    ("pack", "expected a file"),
+    ("pack --json x", "unknown option `--json`"),
+    ("show", "expected a file"),
+    ("unpack", "expected a job and an answer"),
+    ("unpack -", "expected a job and an answer"),
+    ("unpack x y z", "expected a job and an answer"),
+];
+
 #[test]
 fn bad_words_are_named() {
     let verbs = "expected a verb of recover, pack, show, unpack";
-    assert_fails(
-        &run(&["recovr", "x"]),
-        &format!("hanthuvelo: {verbs}, found `recovr`"),
-    );
-    for (words, message) in [
-        (&["recover"][..], "expected a file"),
-        (&["recover", "--jsn", "x"], "unknown option `--jsn`"),
-        (
-            &["recover", "--json", "--bytes", "x"],
-            "--json and --bytes exclude each other",
-        ),
-        (&["recover", "--hex", "x"], "expected --bytes beside --hex"),
-        (
-            &["recover", "--stream", "--readable", "x"],
-            "--stream and --readable exclude each other",
-        ),
-        (
-            &["recover", "--readable", "--binary", "x"],
-            "--readable and --binary exclude each other",
-        ),
-        (
-            &["recover", "--threads"],
-            "expected a value behind --threads",
-        ),
-        (
-            &["recover", "--threads", "0", "x"],
-            "expected a number from 1 to 1024 behind --threads, found `0`",
-        ),
-        (&["recover", "-", "-"], "expected - once at most"),
-        (&["pack"], "expected a file"),
-        (&["pack", "--json", "x"], "unknown option `--json`"),
-        (&["show"], "expected a file"),
-        (&["unpack"], "expected a job and an answer"),
-        (&["unpack", "-"], "expected a job and an answer"),
-        (&["unpack", "x", "y", "z"], "expected a job and an answer"),
-    ] {
+    let unknown = format!("hanthuvelo: {verbs}, found `recovr`");
+    assert_fails(&run(&["recovr", "x"]), &unknown);
+    for (words, message) in BAD_WORDS {
+        let words: Vec<&str> = words.split(' ').collect();
         let verb = words[0];
         let expected = format!("hanthuvelo {verb}: {message}; see `hanthuvelo {verb} --help`");
-        assert_fails(&run(words), &expected);
+        assert_fails(&run(&words), &expected);
     }
     let dashed = run(&["recover", "--", "--json"]);
-    assert_fails(
-        &dashed,
-        "--json: expected a job: No such file or directory (os error 2)",
-    );
+    assert_fails(&dashed, &format!("--json{MISSING}"));
 }
 
+const MISSING: &str = ": expected a job: No such file or directory (os error 2)";
+const TOO_LONG: &str = ": expected a job, found more than 1048576 bytes";
+
 #[test]
-fn inputs_that_cannot_be_read_are_named() {
+fn files_that_cannot_be_read_are_named() {
     let folder = folder("unreadable");
-    let bad = file(
-        &folder,
-        "bad.job",
-        b"prime 7 outputs 1 df 0 dg 0 errors 1\n0 5\n",
-    );
+    let bad = b"prime 7 outputs 1 df 0 dg 0 errors 1\n0 5\n";
+    let bad = file(&folder, "bad.job", bad);
     let large = file(&folder, "large.job", &vec![b'#'; (1 << 20) + 1]);
     let latin = file(&folder, "latin.job", b"# caf\xE9\nprime 7");
+    let script = "set -euo pipefail";
+    let script = file(
+        &folder,
+        "script",
+        format!("# a script\n{script}\n").as_bytes(),
+    );
     for (name, message) in [
-        (
-            "none.job",
-            ": expected a job: No such file or directory (os error 2)",
-        ),
-        (
-            "",
-            ": expected a job: No such file or directory (os error 2)",
-        ),
+        ("none.job", MISSING),
+        ("", MISSING),
         (&bad, ", line 2: expected `point: values`, found `0 5`"),
-        (&large, ": expected a job, found more than 1048576 bytes"),
+        (&large, TOO_LONG),
         (&latin, ", line 1: expected text in UTF-8"),
-        (
-            "/dev/zero",
-            ": expected a job, found more than 1048576 bytes",
-        ),
+        ("/dev/zero", TOO_LONG),
         (
             "/proc/self/mem",
             ": expected a job: Input/output error (os error 5)",
         ),
         (
-            "examples/run",
-            ", line 4: expected `prime P outputs N df D dg D errors E`, found `set -euo pipefail`",
+            &script,
+            ", line 2: expected `prime P outputs N df D dg D errors E`, found `set -euo pipefail`",
         ),
     ] {
         for verb in ["recover", "pack", "show"] {
@@ -321,30 +314,40 @@ fn inputs_that_cannot_be_read_are_named() {
         let directory = run(&[verb, "examples"]);
         assert_fails(&directory, "examples: expected a job: found a directory");
     }
-    let answer = run_on(&["unpack", "--hex", "examples/h01.job"], b"2000\n000g");
-    assert_fails(
-        &answer,
-        "standard input, line 2: expected hexadecimal digits, found 'g'",
-    );
-    let answer = run_on(&["unpack", "--hex", "examples/h01.job"], b"2000000");
-    assert_fails(
-        &answer,
-        "standard input, line 1: expected two hexadecimal digits for each byte, found one",
-    );
-    let answer = run_on(&["unpack", "examples/h01.job"], b"\x20\0\0\0");
-    assert_fails(
-        &answer,
-        "standard input: expected 8 bytes for this job's answer, found 4",
-    );
-    let forced = run(&["show", "--binary", "examples/h10.job"]);
-    assert_eq!(forced.status, 2);
-    assert!(
-        forced.said.starts_with("examples/h10.job: expected "),
-        "{}",
-        forced.said
-    );
-    let forced = run_on(&["recover", "--readable", "-"], &h1());
-    assert_fails(&forced, "standard input, line 1: expected text in UTF-8");
+}
+
+#[test]
+fn answers_that_cannot_be_read_are_named() {
+    for (words, input, message) in [
+        (
+            "--hex",
+            &b"2000\n000g"[..],
+            ", line 2: expected hexadecimal digits, found 'g'",
+        ),
+        (
+            "--hex",
+            b"2000000",
+            ", line 1: expected two hexadecimal digits for each byte, found one",
+        ),
+        (
+            "--readable",
+            b"\x20\0\0\0",
+            ": expected 8 bytes for this job's answer, found 4",
+        ),
+    ] {
+        let run = run_on(&["unpack", words, "examples/h01.job"], input);
+        assert_fails(&run, &format!("standard input{message}"));
+    }
+}
+
+#[test]
+fn a_form_can_be_forced() {
+    let binary = run(&["show", "--binary", "examples/h10.job"]);
+    assert_eq!((binary.text.as_str(), binary.status), ("", 2));
+    let message = "examples/h10.job: expected ";
+    assert!(binary.said.starts_with(message), "{}", binary.said);
+    let readable = run_on(&["recover", "--readable", "-"], &h1());
+    assert_fails(&readable, "standard input, line 1: expected text in UTF-8");
 }
 
 /// Bytes of another kind are jobs that are refused.
@@ -400,35 +403,39 @@ fn a_broken_pipe_ends_the_command() {
     assert_eq!(head.text, "examples/full.job: recovered modulo 65521\n");
 }
 
-/// Random bytes and random text as files, as a folder, and as streams.
-#[test]
-fn nothing_panics_on_random_input() {
-    let folder = folder("random");
-    let words = [
+/// A file's bytes that may be anything: a generated job, random bytes, or random words of a readable job.
+fn any_bytes(index: u64) -> Vec<u8> {
+    const WORDS: [&str; 15] = [
         "prime", "7", "outputs", "1", "df", "0", "dg", "errors", "0:", "1: 5", "\n", "#", "65536",
         "-1", "\u{fc}",
     ];
+    let mut random = Random::new(9, index);
+    match index % 4 {
+        0 => generate(9, index).bytes,
+        1 => {
+            let length = random.below(60);
+            random.bytes(length)
+        }
+        _ => {
+            let count = random.below(30);
+            let words = (0..count).map(|_| WORDS[random.below(WORDS.len())]);
+            words.collect::<Vec<&str>>().join(" ").into_bytes()
+        }
+    }
+}
+
+/// As one folder, and one by one as streams, jobs and answers: each run ends with one of the three
+/// statuses, and with 2 exactly if something is said that is no summary.
+#[test]
+fn nothing_panics_on_random_input() {
+    let folder = folder("random");
     for index in 0..2000 {
-        let mut random = Random::new(9, index);
-        let bytes = match index % 4 {
-            0 => generate(9, index).bytes,
-            1 => {
-                let length = random.below(60);
-                random.bytes(length)
-            }
-            _ => {
-                let count = random.below(30);
-                let drawn: Vec<&str> = (0..count)
-                    .map(|_| words[random.below(words.len())])
-                    .collect();
-                drawn.join(" ").into_bytes()
-            }
-        };
-        file(&folder, &format!("{index:04}.job"), &bytes);
+        file(&folder, &format!("{index:04}.job"), &any_bytes(index));
     }
     let name = folder.to_str().expect("a name");
     let all = run(&["recover", "--json", name]);
     assert_eq!((all.text.lines().count(), all.status), (2000, 2));
+    let is_summary = |line: &str| line.contains(" recovered, ") && line.ends_with(" jobs a second");
     for index in 0..300 {
         let name = format!("{name}/{index:04}.job");
         for words in [
@@ -438,12 +445,8 @@ fn nothing_panics_on_random_input() {
         ] {
             let run = run(words);
             assert!((0..=2).contains(&run.status), "{words:?}");
-            assert_eq!(
-                run.status == 2,
-                run.said.lines().count() > 0 && !run.said.starts_with(|c: char| c.is_ascii_digit()),
-                "{words:?}: {}",
-                run.said
-            );
+            let complains = run.said.lines().any(|line| !is_summary(line));
+            assert_eq!(run.status == 2, complains, "{words:?}: {}", run.said);
         }
     }
 }

@@ -139,15 +139,18 @@ fn bytes_are_those_of_the_second_solver() {
     assert_eq!(text.text, lines);
 }
 
+/// Four short jobs, to be cut at every byte.
+fn short_jobs() -> Vec<Vec<u8>> {
+    let jobs = stream_jobs(SEED + 2, 400).into_iter();
+    let short: Vec<Vec<u8>> = jobs.filter(|job| job.len() < 60).take(4).collect();
+    assert_eq!(short.len(), 4);
+    short
+}
+
 /// A stream that is cut anywhere: the whole jobs are answered, and the broken one is named.
 #[test]
 fn a_broken_stream_names_the_job_that_breaks_off() {
-    let jobs: Vec<Vec<u8>> = stream_jobs(SEED + 2, 400)
-        .into_iter()
-        .filter(|job| job.len() < 60)
-        .take(4)
-        .collect();
-    assert_eq!(jobs.len(), 4);
+    let jobs = short_jobs();
     let stream = jobs.concat();
     for cut in 1..stream.len() {
         let (mut whole, mut start) = (0, 0);
@@ -156,37 +159,37 @@ fn a_broken_stream_names_the_job_that_breaks_off() {
             whole += 1;
         }
         let run = run_on(&["recover", "--stream", "--bytes", "-"], &stream[..cut]);
-        if start == cut {
-            assert!(!run.said.contains("breaks off"), "{cut}: {}", run.said);
-            assert_ne!(run.status, 2);
-            continue;
-        }
-        let (found, length) = (cut - start, jobs[whole].len());
-        let needed = if found < 3 {
-            "at least 3".to_string()
-        } else {
-            length.to_string()
+        let answers = jobs[..whole].iter().flat_map(|job| outside(job).1);
+        assert_eq!(run.out, answers.collect::<Vec<u8>>(), "{cut}");
+        assert_eq!(run.status == 2, start != cut, "{cut}: {}", run.said);
+        let found = cut - start;
+        let needed = match found {
+            0 => {
+                assert!(!run.said.contains("breaks off"), "{cut}: {}", run.said);
+                continue;
+            }
+            1 | 2 => "at least 3".to_string(),
+            _ => jobs[whole].len().to_string(),
         };
         let message = format!(
             "standard input: the stream breaks off inside job {whole}, which begins at byte {start}: \
              expected {needed} bytes, found {found}\n"
         );
         assert!(run.said.contains(&message), "{cut}: {}", run.said);
-        assert_eq!(run.status, 2);
-        let answers: Vec<u8> = jobs[..whole]
-            .iter()
-            .flat_map(|job| outside(job).1)
-            .collect();
-        assert_eq!(run.out, answers, "{cut}");
     }
-    let object = run_on(
-        &["recover", "--stream", "--json", "-"],
-        &stream[..stream.len() - 1],
-    );
+}
+
+#[test]
+fn a_broken_stream_has_an_object() {
+    let jobs = short_jobs();
+    let stream = jobs.concat();
+    let cut = &stream[..stream.len() - 1];
+    let run = run_on(&["recover", "--stream", "--json", "-"], cut);
     let start = stream.len() - jobs[3].len();
-    let last = object.text.lines().last().expect("an object");
-    let expected = format!("{{\"file\":\"standard input\",\"job\":3,\"byte\":{start},\"status\":\"unreadable\",\"message\":\"the stream breaks off");
-    assert!(last.starts_with(&expected), "{last}");
+    let last = run.text.lines().last().expect("an object");
+    let place = format!("{{\"file\":\"standard input\",\"job\":3,\"byte\":{start}");
+    let message = "\"status\":\"unreadable\",\"message\":\"the stream breaks off";
+    assert!(last.starts_with(&format!("{place},{message}")), "{last}");
 }
 
 #[test]
@@ -245,7 +248,8 @@ fn a_slow_stream_is_answered_as_it_comes() {
         assert!(line.contains(&format!("\"job\":{number},")), "{line}");
     }
     drop(input);
-    assert!(child.wait().expect("an end").code() < Some(2));
+    let status = child.wait().expect("an end").code();
+    assert!(matches!(status, Some(0 | 1)), "{status:?}");
 }
 
 /// A run whose standard error is a terminal, and its standard output too where that is asked for.
@@ -322,13 +326,17 @@ fn progress_is_shown_on_a_terminal_alone() {
 #[test]
 fn progress_makes_room_for_the_output() {
     let folder = folder("shared");
-    let jobs = stream_jobs(SEED + 6, 20_000);
-    let name = file(&folder, "stream", &jobs.concat());
+    let jobs = stream_jobs(SEED + 6, 20_000).concat().repeat(5);
+    let name = file(&folder, "stream", &jobs);
     let words = ["recover", "--stream", "--json", "--threads", "1", &name];
     let (_, shown) = on_a_terminal(&words, true);
+    assert!(
+        shown.matches(" done, ").count() >= 2,
+        "no progress was shown"
+    );
     let plain = run(&words).text;
     let settled = settled(&shown);
     let (output, summary) = settled.split_at(plain.len());
     assert!(output == plain, "other output on a terminal");
-    assert!(summary.starts_with("20000 jobs: "), "{summary}");
+    assert!(summary.starts_with("100000 jobs: "), "{summary}");
 }

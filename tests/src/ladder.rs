@@ -48,7 +48,7 @@ pub struct Spoiled {
 }
 
 impl Ladder {
-    /// A Butterworth low-pass of order 7 for 50 ohms and some 10 MHz, by parts that are on sale.
+    /// Close to a Butterworth low-pass of order 7 for 50 ohms and 10 MHz, by parts that are made (E24).
     pub const BUTTERWORTH: Ladder = Ladder {
         source: 50,
         load: 50,
@@ -56,11 +56,11 @@ impl Ladder {
         inductors: [1000, 1600, 1000],
     };
 
-    /// A ladder with other parts, of the values in which they are made.
+    /// A ladder with other parts, of the twelve values to a decade in which they are made (E12).
     pub fn draw(random: &mut Random) -> Ladder {
         const SERIES: [u32; 12] = [10, 12, 15, 18, 22, 27, 33, 39, 47, 56, 68, 82];
         let mut part = |decade: u32| SERIES[random.below(SERIES.len())] * decade;
-        let (source, load) = (part(5), part(5));
+        let (source, load) = (part(1), part(1));
         Ladder {
             source,
             load,

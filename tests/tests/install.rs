@@ -83,12 +83,15 @@ fn a_c_program_needs_the_flags_alone() {
     assert_eq!(printed, "recovered 1\nwrong 2\ng 1\nf1 5\n");
 }
 
-/// For a package: the files stand below DESTDIR and speak of the prefix.
+/// For a package: the files stand below DESTDIR, which may be named from the folder that one is in,
+/// and speak of the prefix.
 #[test]
 fn files_can_be_staged() {
     let folder = folder("staged");
-    output(install("/opt/somewhere").env("DESTDIR", &folder));
-    let below = folder.join("opt/somewhere");
+    let mut command = Command::new("bash");
+    command.args([&format!("{ROOT}/install"), "/opt/somewhere"]);
+    output(command.current_dir(&folder).env("DESTDIR", "stage"));
+    let below = folder.join("stage/opt/somewhere");
     assert_eq!(files_below(&below), FILES);
     let described = fs::read_to_string(below.join(FILES[4])).expect("pkg-config's file");
     assert!(

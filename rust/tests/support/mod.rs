@@ -22,9 +22,11 @@ pub struct Run {
 impl Run {
     pub fn of(output: Output) -> Run {
         let said = String::from_utf8_lossy(&output.stderr).into_owned();
-        assert!(!said.contains("panicked"), "{said}");
+        // 101 is what a panic ends with, also where nobody can read of it.
+        let status = output.status.code().expect("no signal ends the command");
+        assert!(status != 101 && !said.contains("panicked"), "{said}");
         Run {
-            status: output.status.code().unwrap_or(-1),
+            status,
             text: String::from_utf8_lossy(&output.stdout).into_owned(),
             out: output.stdout,
             said,

@@ -34,6 +34,38 @@ impl<R, T: FnMut(R) -> bool> Sink<R, T> {
     }
 }
 
+/// What the threads share.
+struct Pool<N, R, T> {
+    source: Mutex<Source<N>>,
+    sink: Mutex<Sink<R, T>>,
+    moved: Condvar,
+    most_waiting: usize,
+}
+
+impl<B, R, N: FnMut() -> Option<B>, T: FnMut(R) -> bool> Pool<N, R, T> {
+    /// The next piece with its number.
+    fn draw(&self) -> Option<(usize, B)> {
+        let mut source = lock(&self.source);
+        let piece = (source.next)()?;
+        source.count += 1;
+        Some((source.count - 1, piece))
+    }
+
+    /// Hands over a result, and waits while too many are there before their turn; false where no more are taken.
+    fn deliver(&self, number: usize, result: R) -> bool {
+        let mut sink = lock(&self.sink);
+        sink.add(number, result);
+        self.moved.notify_all();
+        while sink.is_open && sink.waiting.len() > self.most_waiting {
+            sink = self
+                .moved
+                .wait(sink)
+                .unwrap_or_else(PoisonError::into_inner);
+        }
+        sink.is_open
+    }
+}
+
 /// Takes pieces from `next` until there are none, works them off on so many threads, and hands the results to `take` in
 /// the order of the pieces. If `take` says false, the rest is left.
 pub fn in_order<B, R: Send>(
@@ -42,32 +74,20 @@ pub fn in_order<B, R: Send>(
     work: impl Fn(B) -> R + Sync,
     take: impl FnMut(R) -> bool + Send,
 ) {
-    let source = Mutex::new(Source { next, count: 0 });
-    let sink = Mutex::new(Sink {
-        take,
-        turn: 0,
-        waiting: BTreeMap::new(),
-        is_open: true,
-    });
-    let moved = Condvar::new();
-    let draw = || {
-        let mut source = lock(&source);
-        let piece = (source.next)()?;
-        source.count += 1;
-        Some((source.count - 1, piece))
-    };
-    let deliver = |number, result| {
-        let mut sink = lock(&sink);
-        sink.add(number, result);
-        moved.notify_all();
-        while sink.is_open && sink.waiting.len() > MOST_WAITING * threads {
-            sink = moved.wait(sink).unwrap_or_else(PoisonError::into_inner);
-        }
-        sink.is_open
+    let pool = Pool {
+        source: Mutex::new(Source { next, count: 0 }),
+        sink: Mutex::new(Sink {
+            take,
+            turn: 0,
+            waiting: BTreeMap::new(),
+            is_open: true,
+        }),
+        moved: Condvar::new(),
+        most_waiting: MOST_WAITING * threads,
     };
     let worker = || {
-        while let Some((number, piece)) = draw() {
-            if !deliver(number, work(piece)) {
+        while let Some((number, piece)) = pool.draw() {
+            if !pool.deliver(number, work(piece)) {
                 break;
             }
         }
