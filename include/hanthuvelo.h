@@ -3,11 +3,11 @@
  *
  * Given rows (x; y1 .. yn) modulo a prime p, the library finds the reduced fractions f1/g .. fn/g within the
  * degree bounds that are wrong at no more than E rows, and says which rows those are; or it says that there
- * are none.
+ * are none. It also writes trial jobs, whose result is known, from such fractions.
  *
  * After `bash install PREFIX`, pkg-config knows the flags as `hanthuvelo`. Without it link
  * target/staticlib/libcapi.a, which `rt staticlib capi` writes. The archive is for x86-64 Linux and needs nothing
- * beside the C library. What the function promises is its contract in crates/capi/src/lib.rt, which is proved.
+ * beside the C library. What a function promises is its contract in crates/capi/src/lib.rt, which is proved.
  */
 #ifndef HANTHUVELO_H
 #define HANTHUVELO_H
@@ -19,7 +19,7 @@
 extern "C" {
 #endif
 
-/* The most bytes that a job can have: 31 rows, 4 outputs. */
+/* The most bytes that a job can have: 31 rows, 4 outputs. An area of this length is long enough for any trial job. */
 #define HANTHUVELO_JOB_MAX 313
 
 /* The most bytes that an answer can have; an area of this length is never refused as too short. */
@@ -46,9 +46,13 @@ extern "C" {
  * fi(x) = g(x) yi modulo p for every i.
  */
 
-/* The refusals, in the order in which they are tested; the first that applies is returned. */
+/*
+ * The refusals; the first that applies is returned. A recovery tests 1 to 8 in this order, a trial 1, 2, 3, 4, 9, 5, 10
+ * and 7, as said at hanthuvelo_trial.
+ */
 enum {
     HANTHUVELO_RECOVERED = 0,      /* not refused: the area begins with the answer */
+    HANTHUVELO_WRITTEN = 0,        /* of a trial: the area begins with the job */
     HANTHUVELO_TOO_SHORT = 1,      /* the job has fewer than 3 bytes */
     HANTHUVELO_SPARE_BIT = 2,      /* the header's last bit is 1 */
     HANTHUVELO_BYTE_COUNT = 3,     /* the job has not the number of bytes that its header fixes */
@@ -56,10 +60,12 @@ enum {
     HANTHUVELO_OUT_OF_RANGE = 5,   /* a point or a value is p or more; `row` is the first such row */
     HANTHUVELO_REPEATED_POINT = 6, /* a point stands in an earlier row; `row` is the first such later row */
     HANTHUVELO_AREA_TOO_SHORT = 7, /* the area is shorter than the answer */
-    HANTHUVELO_NO_ANSWER = 8       /* no reduced fractions within df and dg are wrong at E rows or fewer */
+    HANTHUVELO_NO_ANSWER = 8,      /* no reduced fractions within df and dg are wrong at E rows or fewer */
+    HANTHUVELO_TOO_MANY_ROWS = 9,  /* of a trial alone: L is above p, or more rows are to be spoiled than L */
+    HANTHUVELO_NOT_REDUCED = 10    /* of a trial alone: the fractions are not reduced */
 };
 
-/* What a call returns. */
+/* What a recovery returns. */
 struct hanthuvelo_report {
     uint32_t refusal; /* 0 if the job is recovered, else the number of the refusal */
     uint32_t row;     /* the row that refusal 5 or 6 speaks of, counted from 0; else 0 */
@@ -83,6 +89,49 @@ struct hanthuvelo_report {
  */
 struct hanthuvelo_report hanthuvelo_recover(const uint8_t *job, size_t job_length, uint8_t *area,
                                             size_t area_length);
+
+/* What a call that writes a trial job returns. */
+struct hanthuvelo_written {
+    uint32_t refusal; /* 0 if the job is written, else the number of the refusal */
+    uint32_t row;     /* 0: no refusal of a trial names a row */
+    uint32_t written; /* how many bytes of the area were written; 0 if the call is refused */
+};
+
+/*
+ * Writes a trial job, whose result is known, to the start of the area_length bytes at `area`: from the header_length
+ * bytes of a job's header, the coefficients_length bytes of g and f1 .. fn as an answer lists them behind its word, the
+ * word `start`, and the number `spoiled` of rows to be spoiled.
+ *
+ * The job begins with the header. Row r has the point r; where g(r) is 0 its values are zeros, else those below p with
+ * fi(r) = g(r) yi modulo p. Then `spoiled` different rows are spoiled, each by two draws. A draw is a new word:
+ * 1664525 times the last one, which is `start` before the first draw, plus 1013904223, modulo 2^32. The top 16 bits of one
+ * draw modulo L choose the row, or the next one that is not spoiled yet, row 0 following the last. The top 16 bits of the
+ * next draw modulo p - 1, plus 1, are added to the row's first value modulo p.
+ *
+ * Where the rows that are spoiled or have g(r) = 0 are E at most, a recovery of the job into an area that is long enough
+ * gives back g and f1 .. fn, and exactly those rows.
+ *
+ * Refused, in this order:
+ *
+ *   1   the header has fewer than 3 bytes
+ *   2   its last bit is 1
+ *   3   it has more than 3 bytes, or the coefficients are not 2 ((dg + 1) + n (df + 1)) bytes
+ *   4   L is below df + dg + 2 E + 1
+ *   9   L is above p, or `spoiled` is above L
+ *   5   a coefficient is p or more
+ *   10  g is zero, its leading coefficient is not 1, or a polynomial of positive degree divides g and every f
+ *   7   the area is shorter than the job, which has 3 + 2 L (1 + n) bytes
+ *
+ * Any bytes are taken, and any lengths, `start` and `spoiled`. Bytes of the area behind the job keep what they held; if
+ * the call is refused, the whole area does. Header and coefficients are only read, and may overlap each other.
+ *
+ * The caller sees to it that each pointer leads to as many bytes as the length beside it says, that the area overlaps
+ * neither of the others, and that until the call returns nothing else writes to any of them or reads the area. A pointer
+ * whose length is 0 is not followed. As a recovery, the call allocates no memory and keeps nothing between calls.
+ */
+struct hanthuvelo_written hanthuvelo_trial(const uint8_t *header, size_t header_length, const uint8_t *coefficients,
+                                           size_t coefficients_length, uint32_t start, uint32_t spoiled,
+                                           uint8_t *area, size_t area_length);
 
 #ifdef __cplusplus
 }

@@ -71,7 +71,12 @@ impl Bounds {
 
     /// How many bytes an answer within these bounds has.
     pub fn answer_length(&self) -> usize {
-        4 + 2 * (self.dg + 1 + self.outputs * (self.df + 1))
+        4 + self.coefficients_length()
+    }
+
+    /// How many bytes the coefficients within these bounds have, as an answer lists them behind its word.
+    pub fn coefficients_length(&self) -> usize {
+        2 * (self.dg + 1 + self.outputs * (self.df + 1))
     }
 
     /// How many bytes a row has: the point and the values, 16 bits each.
@@ -79,7 +84,7 @@ impl Bounds {
         2 * (1 + self.outputs)
     }
 
-    fn check(&self) -> Result<(), FormatError> {
+    pub(crate) fn check(&self) -> Result<(), FormatError> {
         within("outputs", 1, 4, self.outputs)?;
         within("df", 0, 31, self.df)?;
         within("dg", 0, 31, self.dg)?;
@@ -87,7 +92,7 @@ impl Bounds {
     }
 }
 
-fn within(what: &str, low: usize, high: usize, found: usize) -> Result<(), FormatError> {
+pub(crate) fn within(what: &str, low: usize, high: usize, found: usize) -> Result<(), FormatError> {
     if (low..=high).contains(&found) {
         return Ok(());
     }
@@ -126,6 +131,19 @@ impl Header {
             rows: (first & 15) << 1 | second >> 7,
             spare: third & 1 == 1,
         })
+    }
+
+    /// The header's bytes; every field is within its range.
+    pub(crate) fn pack(&self) -> [u8; Header::LENGTH] {
+        let (bounds, rows) = (&self.bounds, self.rows);
+        let (code, outputs) = (bounds.prime as usize, bounds.outputs - 1);
+        let spare = usize::from(self.spare);
+        let bytes = [
+            code << 6 | outputs << 4 | rows >> 1,
+            (rows & 1) << 7 | bounds.df << 2 | bounds.dg >> 3,
+            (bounds.dg & 7) << 5 | bounds.errors << 1 | spare,
+        ];
+        bytes.map(|byte| byte as u8)
     }
 
     /// How many bytes a job with this header has, the header among them.
@@ -188,18 +206,15 @@ impl Job {
 
     /// The job's bytes.
     pub fn pack(&self) -> Vec<u8> {
-        let bounds = &self.bounds;
-        let code = bounds.prime as usize;
-        let (outputs, rows) = (bounds.outputs - 1, self.rows.len());
-        let header = [
-            code << 6 | outputs << 4 | rows >> 1,
-            (rows & 1) << 7 | bounds.df << 2 | bounds.dg >> 3,
-            (bounds.dg & 7) << 5 | bounds.errors << 1,
-        ];
-        let mut bytes = header.map(|byte| byte as u8).to_vec();
+        let header = Header {
+            bounds: self.bounds,
+            rows: self.rows.len(),
+            spare: false,
+        };
+        let mut bytes = header.pack().to_vec();
         for row in &self.rows {
-            let numbers = std::iter::once(&row.point).chain(&row.values);
-            bytes.extend(numbers.flat_map(|number| number.to_be_bytes()));
+            bytes.extend(number_bytes(&[row.point]));
+            bytes.extend(number_bytes(&row.values));
         }
         bytes
     }
@@ -221,14 +236,20 @@ impl Job {
                 "expected {needed} bytes, as the header says, found {found}"
             )));
         }
-        let mut job = Job::new(header.bounds)?;
-        for row in bytes[Header::LENGTH..].chunks(header.bounds.row_length()) {
-            let mut numbers = numbers(row);
+        Ok(Job::read(bytes, header.bounds))
+    }
+
+    /// The job with these bounds in bytes that begin with its header; its rows are those that are whole.
+    pub(crate) fn read(bytes: &[u8], bounds: Bounds) -> Job {
+        let rows = bytes.get(Header::LENGTH..).unwrap_or_default();
+        let row = |bytes: &[u8]| {
+            let mut numbers = numbers(bytes);
             let point = numbers.remove(0);
             let values = numbers;
-            job.push(Row { point, values })?;
-        }
-        Ok(job)
+            Row { point, values }
+        };
+        let rows = rows.chunks_exact(bounds.row_length()).map(row).collect();
+        Job { bounds, rows }
     }
 }
 
@@ -236,6 +257,12 @@ impl Job {
 pub(crate) fn numbers(bytes: &[u8]) -> Vec<u16> {
     let number = |pair: &[u8]| u16::from_be_bytes([pair[0], pair[1]]);
     bytes.chunks_exact(2).map(number).collect()
+}
+
+/// Numbers as bytes, 16 bits each, high byte first.
+pub(crate) fn number_bytes(numbers: &[u16]) -> Vec<u8> {
+    let bytes = numbers.iter().flat_map(|number| number.to_be_bytes());
+    bytes.collect()
 }
 
 /// A number with its noun, as `1 row`, `2 rows`.

@@ -28,7 +28,9 @@
 //! # }
 //! ```
 //!
-//! [`recover`] is the call itself, on any bytes and any area, as the C header declares it.
+//! A [`Trial`] is the way back: a job whose result is known, written from fractions, with rows spoiled on purpose.
+//!
+//! [`recover`] and [`trial`](fn@trial) are the calls themselves, on any bytes and any area, as the C header declares them.
 
 #![deny(unsafe_code)]
 #![warn(missing_docs)]
@@ -40,12 +42,14 @@ pub mod hex;
 mod job;
 pub mod readable;
 mod refusal;
+mod trial;
 
 pub use answer::{polynomial_text, trimmed, Answer};
 #[cfg(feature = "library")]
-pub use call::recover;
+pub use call::{recover, trial};
 pub use job::{Bounds, FormatError, Header, Job, Prime, Row};
 pub use refusal::Refusal;
+pub use trial::Trial;
 
 /// The most bytes that a job can have: 31 rows, four outputs.
 pub const LONGEST_JOB: usize = 313;
@@ -91,6 +95,45 @@ impl Report {
 
     /// Whether the area begins with an answer.
     pub fn is_recovered(&self) -> bool {
+        self.refusal == 0
+    }
+}
+
+/// What a call that writes a trial job returns.
+///
+/// A job that is written has `refusal` 0; a refused call has `written` 0. `row` is 0 always.
+#[repr(C)]
+#[derive(Clone, Copy, Debug, PartialEq, Eq)]
+pub struct Written {
+    /// The refusal's number, 1 to 5, 7, 9 or 10; 0 where the job is written.
+    pub refusal: u32,
+    /// 0: no refusal of a trial names a row.
+    pub row: u32,
+    /// The number of bytes written to the area.
+    pub written: u32,
+}
+
+impl Written {
+    /// What a call returns that is refused with this number.
+    pub const fn refused(number: u32) -> Written {
+        Written {
+            refusal: number,
+            row: 0,
+            written: 0,
+        }
+    }
+
+    /// What a call returns that writes a job of so many bytes.
+    pub const fn bytes(written: u32) -> Written {
+        Written {
+            refusal: 0,
+            row: 0,
+            written,
+        }
+    }
+
+    /// Whether the area begins with a job.
+    pub fn is_written(&self) -> bool {
         self.refusal == 0
     }
 }

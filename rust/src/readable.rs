@@ -1,4 +1,6 @@
-//! Jobs for people to read: a line for the prime and the bounds, a line for each row.
+//! Jobs and trials for people to read.
+//!
+//! A job has a line for the prime and the bounds, and a line for each row:
 //!
 //! ```text
 //! # everything behind a number sign is a remark
@@ -8,14 +10,27 @@
 //! 2: 5 3
 //! ```
 //!
-//! A [`Job`] is read by `parse` and written by `to_string`.
+//! A trial has the same first line, then one for the number of rows and for what is spoiled, and a line for each polynomial:
+//!
+//! ```text
+//! prime 7 outputs 2 df 0 dg 1 errors 2
+//! rows 7 start 14 spoiled 2
+//! g = 1 + u
+//! f1 = 5
+//! f2 = 1
+//! ```
+//!
+//! A [`Job`] and a [`Trial`](crate::Trial) are read by `parse` and written by `to_string`.
+
+mod trial;
 
 use crate::{Bounds, FormatError, Job, Prime, Row};
 use std::error::Error;
 use std::fmt::{Display, Formatter};
 use std::str::FromStr;
+pub use trial::parse_trial;
 
-/// What is wrong with a readable job, and in which line, counted from 1.
+/// What is wrong with a readable job or trial, and in which line, counted from 1.
 #[derive(Clone, Debug, PartialEq, Eq)]
 pub struct TextError {
     /// The line, counted from 1.
@@ -45,6 +60,10 @@ pub fn is_readable(bytes: &[u8]) -> bool {
 
 /// The job that a file's bytes describe.
 pub fn parse(bytes: &[u8]) -> Result<Job, TextError> {
+    parse_bytes(bytes)
+}
+
+fn parse_bytes<T: FromStr<Err = TextError>>(bytes: &[u8]) -> Result<T, TextError> {
     match std::str::from_utf8(bytes) {
         Ok(text) => text.parse(),
         Err(error) => {
@@ -60,52 +79,91 @@ impl FromStr for Job {
     type Err = TextError;
 
     fn from_str(text: &str) -> Result<Job, TextError> {
-        let mut job: Option<Job> = None;
-        let mut last = 0;
-        for (index, line) in text.lines().enumerate() {
-            last = index + 1;
-            let content = line.split('#').next().unwrap_or("").trim();
-            if content.is_empty() {
-                continue;
-            }
-            let in_line = |FormatError(message)| TextError {
-                line: last,
-                message,
-            };
-            match &mut job {
-                None => job = Some(parse_header(content).map_err(in_line)?),
-                Some(job) => parse_row(content, job).map_err(in_line)?,
-            }
+        let mut lines = Lines::new(text);
+        let bounds = lines.take(HEADER, parse_header)?;
+        let mut job = Job::new(bounds).map_err(|error| lines.error(error))?;
+        while let Some(content) = lines.next() {
+            parse_row(content, &mut job).map_err(|error| lines.error(error))?;
         }
-        job.ok_or_else(|| TextError {
-            line: last + 1,
-            message: format!("expected `{HEADER}`"),
-        })
+        Ok(job)
     }
 }
 
-fn parse_header(content: &str) -> Result<Job, FormatError> {
-    let words: Vec<&str> = content.split_whitespace().collect();
-    let labels = HEADER.split_whitespace().step_by(2);
-    if words.len() != 10 || !labels.eq(words.iter().copied().step_by(2)) {
-        let found = excerpt(content);
-        return Err(FormatError(format!("expected `{HEADER}`, found {found}")));
+/// The lines that say something, remarks left out.
+struct Lines<'a> {
+    rest: std::iter::Enumerate<std::str::Lines<'a>>,
+    /// The number of the line that was read last.
+    line: usize,
+}
+
+impl<'a> Lines<'a> {
+    fn new(text: &'a str) -> Lines<'a> {
+        let rest = text.lines().enumerate();
+        Lines { rest, line: 0 }
     }
-    let prime = number(words[1], "prime")?;
+
+    fn next(&mut self) -> Option<&'a str> {
+        for (index, line) in self.rest.by_ref() {
+            self.line = index + 1;
+            let content = line.split('#').next().unwrap_or("").trim();
+            if !content.is_empty() {
+                return Some(content);
+            }
+        }
+        self.line += 1;
+        None
+    }
+
+    /// What the next line says, which must be there and have a form.
+    fn take<T>(
+        &mut self,
+        form: &str,
+        parse: impl FnOnce(&str) -> Result<T, FormatError>,
+    ) -> Result<T, TextError> {
+        let parsed = match self.next() {
+            Some(content) => parse(content),
+            None => Err(FormatError(format!("expected `{form}`"))),
+        };
+        parsed.map_err(|error| self.error(error))
+    }
+
+    /// An error in the line that was read last.
+    fn error(&self, FormatError(message): FormatError) -> TextError {
+        let line = self.line;
+        TextError { line, message }
+    }
+}
+
+/// The words behind the labels of a line that has this form, as `df D dg D`.
+fn labelled<'a>(content: &'a str, form: &str) -> Result<Vec<&'a str>, FormatError> {
+    let words: Vec<&str> = content.split_whitespace().collect();
+    let labels = form.split_whitespace().step_by(2);
+    let is_whole = words.len() == form.split_whitespace().count();
+    if !is_whole || !labels.eq(words.iter().copied().step_by(2)) {
+        let found = excerpt(content);
+        return Err(FormatError(format!("expected `{form}`, found {found}")));
+    }
+    Ok(words.into_iter().skip(1).step_by(2).collect())
+}
+
+fn parse_header(content: &str) -> Result<Bounds, FormatError> {
+    let words = labelled(content, HEADER)?;
+    let prime = number(words[0], "prime")?;
     let Some(prime) = Prime::from_value(prime.into()) else {
         let known = Prime::ALL.map(|prime| prime.value().to_string()).join(", ");
         return Err(FormatError(format!(
             "expected a prime of {known}, found {prime}"
         )));
     };
-    let field = |place: usize| number(words[place], words[place - 1]).map(usize::from);
-    Job::new(Bounds {
+    let field = |place: usize, name: &str| number(words[place], name).map(usize::from);
+    let bounds = Bounds {
         prime,
-        outputs: field(3)?,
-        df: field(5)?,
-        dg: field(7)?,
-        errors: field(9)?,
-    })
+        outputs: field(1, "outputs")?,
+        df: field(2, "df")?,
+        dg: field(3, "dg")?,
+        errors: field(4, "errors")?,
+    };
+    bounds.check().map(|()| bounds)
 }
 
 fn parse_row(content: &str, job: &mut Job) -> Result<(), FormatError> {
@@ -126,13 +184,20 @@ fn parse_row(content: &str, job: &mut Job) -> Result<(), FormatError> {
 
 /// A decimal number. Numbers of p or more are let through, so that a refused job can be written.
 fn number(word: &str, what: &str) -> Result<u16, FormatError> {
+    number_up_to(u16::MAX.into(), word, what).map(|number| number as u16)
+}
+
+fn number_up_to(most: u32, word: &str, what: &str) -> Result<u32, FormatError> {
     let is_number = !word.is_empty() && word.bytes().all(|byte| byte.is_ascii_digit());
-    word.parse().ok().filter(|_| is_number).ok_or_else(|| {
-        let found = excerpt(word);
-        FormatError(format!(
-            "expected {what} as a number from 0 to 65535, found {found}"
-        ))
-    })
+    let parsed = word.parse().ok();
+    parsed
+        .filter(|&number| is_number && number <= most)
+        .ok_or_else(|| {
+            let found = excerpt(word);
+            FormatError(format!(
+                "expected {what} as a number from 0 to {most}, found {found}"
+            ))
+        })
 }
 
 /// What was found, in quotes; a long text is cut, and characters that would spoil a terminal are escaped.
@@ -143,15 +208,15 @@ fn excerpt(found: &str) -> String {
     format!("`{}{rest}`", shown.escape_debug())
 }
 
+fn header_text(bounds: &Bounds) -> String {
+    let (prime, outputs) = (bounds.prime.value(), bounds.outputs);
+    let (df, dg, errors) = (bounds.df, bounds.dg, bounds.errors);
+    format!("prime {prime} outputs {outputs} df {df} dg {dg} errors {errors}")
+}
+
 impl Display for Job {
     fn fmt(&self, formatter: &mut Formatter<'_>) -> std::fmt::Result {
-        let bounds = self.bounds();
-        let (prime, outputs) = (bounds.prime.value(), bounds.outputs);
-        let (df, dg, errors) = (bounds.df, bounds.dg, bounds.errors);
-        writeln!(
-            formatter,
-            "prime {prime} outputs {outputs} df {df} dg {dg} errors {errors}"
-        )?;
+        writeln!(formatter, "{}", header_text(self.bounds()))?;
         for row in self.rows() {
             write!(formatter, "{}:", row.point)?;
             for value in &row.values {

@@ -1,23 +1,24 @@
 //! A refusal in words.
 
 use crate::job::{counted, numbers};
-use crate::{Header, Report};
+use crate::{trimmed, Bounds, Header, Report, Written};
 use std::error::Error;
 use std::fmt::{Display, Formatter};
 
-/// Why a job is refused. Shown as `refused 5, row 2: a point or a value is 7 or more`.
+/// Why a job is refused, or why a trial job is not written. Shown as `refused 5, row 2: a point or a value is 7 or more`.
 #[derive(Clone, Debug, PartialEq, Eq)]
 pub struct Refusal {
-    /// The number, 1 to 8.
+    /// The number: 1 to 8 of a job; 1 to 5, 7, 9 or 10 of a trial.
     pub number: u32,
-    /// The row that refusal 5 or 6 speaks of, counted from 0; else 0.
+    /// The row that refusal 5 or 6 of a job speaks of, counted from 0; else 0.
     pub row: u32,
-    /// What the number means for this job.
+    /// What the number means for this job or trial.
     pub reason: String,
+    names_a_row: bool,
 }
 
 impl Refusal {
-    /// The refusal that a call on these bytes reported, if it did.
+    /// The refusal that a call of [`recover`](crate::recover) on these bytes reported, if it did.
     pub fn of(report: Report, job: &[u8]) -> Option<Refusal> {
         if report.is_recovered() {
             return None;
@@ -28,14 +29,38 @@ impl Refusal {
             row,
             reason: match Header::read(job) {
                 Some(header) => reason(refusal, row as usize, header, job),
-                None => format!("expected 3 bytes or more, found {}", job.len()),
+                None => too_short(job),
             },
+            names_a_row: matches!(refusal, 5 | 6),
+        })
+    }
+
+    /// The refusal that a call of [`trial`](crate::trial) with these bytes and so many rows to be spoiled reported, if it did.
+    pub fn of_trial(
+        written: Written,
+        header: &[u8],
+        coefficients: &[u8],
+        spoiled: u32,
+    ) -> Option<Refusal> {
+        if written.is_written() {
+            return None;
+        }
+        let Written { refusal, row, .. } = written;
+        Some(Refusal {
+            number: refusal,
+            row,
+            reason: match Header::read(header) {
+                Some(read) if refusal == 3 => byte_counts(read.bounds, header, coefficients),
+                Some(read) => trial_reason(refusal, read, coefficients, spoiled),
+                None => too_short(header),
+            },
+            names_a_row: false,
         })
     }
 
     /// Whether the refusal speaks of one row.
     pub fn names_a_row(&self) -> bool {
-        matches!(self.number, 5 | 6)
+        self.names_a_row
     }
 }
 
@@ -54,14 +79,9 @@ impl Error for Refusal {}
 fn reason(number: u32, row: usize, header: Header, job: &[u8]) -> String {
     let bounds = header.bounds;
     match number {
-        2 => "the header's last bit is 1".to_string(),
         3 => {
             let (needed, found) = (header.job_length(), job.len());
             format!("the header asks for {needed} bytes, the job has {found}")
-        }
-        4 => {
-            let (needed, found) = (bounds.needed_rows(), counted(header.rows, "row"));
-            format!("df + dg + 2 E + 1 is {needed}, the job has {found}")
         }
         5 => format!("a point or a value is {} or more", bounds.prime.value()),
         6 => {
@@ -76,6 +96,55 @@ fn reason(number: u32, row: usize, header: Header, job: &[u8]) -> String {
             let rows = counted(bounds.errors, "wrong row");
             format!("no reduced answer within df {df} and dg {dg} has at most {rows}")
         }
+        _ => header_reason(number, header),
+    }
+}
+
+fn trial_reason(number: u32, header: Header, coefficients: &[u8], spoiled: u32) -> String {
+    let prime = header.bounds.prime.value();
+    let rows = counted(header.rows, "row");
+    match number {
+        5 => format!("a coefficient is {prime} or more"),
+        7 => format!("the job needs {} bytes", header.job_length()),
+        9 if header.rows > prime as usize => {
+            format!("there are {prime} points, the job has {rows}")
+        }
+        9 => format!("{spoiled} rows are to be spoiled, the job has {rows}"),
+        10 => not_reduced(&numbers(coefficients), header.bounds),
+        _ => header_reason(number, header),
+    }
+}
+
+/// What a job's header and a trial's are refused for alike.
+fn header_reason(number: u32, header: Header) -> String {
+    match number {
+        2 => "the header's last bit is 1".to_string(),
+        4 => {
+            let (needed, found) = (header.bounds.needed_rows(), counted(header.rows, "row"));
+            format!("df + dg + 2 E + 1 is {needed}, the job has {found}")
+        }
         _ => "a number that this version does not know".to_string(),
+    }
+}
+
+fn too_short(header: &[u8]) -> String {
+    format!("expected 3 bytes or more, found {}", header.len())
+}
+
+fn byte_counts(bounds: Bounds, header: &[u8], coefficients: &[u8]) -> String {
+    if header.len() > Header::LENGTH {
+        return format!("expected a header of 3 bytes, found {}", header.len());
+    }
+    let (needed, found) = (bounds.coefficients_length(), coefficients.len());
+    format!("the header asks for coefficients of {needed} bytes, they have {found}")
+}
+
+/// The first cause that applies, g standing before every f.
+fn not_reduced(coefficients: &[u16], bounds: Bounds) -> String {
+    let denominator = coefficients.get(..=bounds.dg).unwrap_or_default();
+    match trimmed(denominator).last() {
+        None => "g is zero".to_string(),
+        Some(1) => "a polynomial of positive degree divides g and every f".to_string(),
+        Some(leading) => format!("the leading coefficient of g is {leading}, not 1"),
     }
 }

@@ -205,7 +205,7 @@ fn shown_jobs_pack_into_their_bytes() {
 fn help_and_version_are_printed() {
     let general = run(&["--help"]);
     assert_eq!(general.status, 0);
-    for verb in ["recover", "pack", "show", "unpack"] {
+    for verb in ["recover", "pack", "show", "unpack", "trial"] {
         assert!(
             general.text.contains(&format!("\n  {verb} ")),
             "{}",
@@ -261,7 +261,7 @@ const BAD_WORDS: [(&str, &str); 15] = [
 
 #[test]
 fn bad_words_are_named() {
-    let verbs = "expected a verb of recover, pack, show, unpack";
+    let verbs = "expected a verb of recover, pack, show, unpack, trial";
     let unknown = format!("hanthuvelo: {verbs}, found `recovr`");
     assert_fails(&run(&["recovr", "x"]), &unknown);
     for (words, message) in BAD_WORDS {

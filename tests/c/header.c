@@ -20,10 +20,10 @@ static int same(struct hanthuvelo_report r, uint32_t refusal, uint32_t row, uint
     return r.refusal == refusal && r.row == row && r.written == written && r.wrong == wrong;
 }
 
-/* Whether the area holds what it was filled with from a place on. */
-static int kept(const uint8_t *area, size_t from)
+/* Whether an area holds what it was filled with between two places. */
+static int kept(const uint8_t *area, size_t from, size_t to)
 {
-    for (size_t i = from; i < HANTHUVELO_ANSWER_MAX; i++) {
+    for (size_t i = from; i < to; i++) {
         if (area[i] != FILLING) {
             return 0;
         }
@@ -31,7 +31,7 @@ static int kept(const uint8_t *area, size_t from)
     return 1;
 }
 
-int main(void)
+static int check_recover(void)
 {
     uint8_t area[HANTHUVELO_ANSWER_MAX];
     memset(area, FILLING, sizeof area);
@@ -47,10 +47,74 @@ int main(void)
     memcpy(job, H1_JOB, sizeof job);
     job[10] = 4;
     EXPECT(same(hanthuvelo_recover(job, sizeof job, area, sizeof area), HANTHUVELO_NO_ANSWER, 0, 0, 0));
-    EXPECT(kept(area, 0));
+    EXPECT(kept(area, 0, sizeof area));
 
     EXPECT(same(hanthuvelo_recover(H1_JOB, sizeof H1_JOB, area, sizeof area), HANTHUVELO_RECOVERED, 0, 8, 1));
     EXPECT(memcmp(area, H1_ANSWER, sizeof H1_ANSWER) == 0);
-    EXPECT(kept(area, sizeof H1_ANSWER));
+    EXPECT(kept(area, sizeof H1_ANSWER, sizeof area));
     return 0;
+}
+
+/* The example of docs/TRIAL.md: g = 1 + u, f1 = 5 and f2 = 1 modulo 7, two rows spoiled from the word 14. */
+static const uint8_t HEADER[] = {0x13, 0x80, 0x24, 0};
+static const uint8_t COEFFICIENTS[] = {0, 1, 0, 1, 0, 5, 0, 1, 0};
+static const uint8_t TRIAL_JOB[] = {0x13, 0x80, 0x24, 0, 0, 0, 2, 0, 1, 0, 1, 0, 6, 0, 4, 0, 2, 0, 4, 0, 5, 0, 3,
+                                    0,    3,    0,    2, 0, 4, 0, 1, 0, 3, 0, 5, 0, 2, 0, 6, 0, 6, 0, 2, 0, 0};
+static const uint8_t TRIAL_ANSWER[] = {0x82, 0, 0, 0, 0, 1, 0, 1, 0, 5, 0, 1};
+
+static int refused(struct hanthuvelo_written w, uint32_t refusal)
+{
+    return w.refusal == refusal && w.row == 0 && w.written == 0;
+}
+
+/* A call of the example with other lengths, another number of spoiled rows, or one byte changed. */
+static struct hanthuvelo_written trial(size_t header_length, size_t coefficients_length, uint32_t spoiled,
+                                       uint8_t *area, size_t area_length)
+{
+    return hanthuvelo_trial(HEADER, header_length, COEFFICIENTS, coefficients_length, 14, spoiled, area, area_length);
+}
+
+static struct hanthuvelo_written changed(size_t header_place, uint8_t header_byte, size_t place, uint8_t byte,
+                                         uint8_t *area)
+{
+    uint8_t header[3], coefficients[8];
+    memcpy(header, HEADER, sizeof header);
+    memcpy(coefficients, COEFFICIENTS, sizeof coefficients);
+    header[header_place] = header_byte;
+    coefficients[place] = byte;
+    return hanthuvelo_trial(header, 3, coefficients, 8, 14, 2, area, HANTHUVELO_JOB_MAX);
+}
+
+static int check_trial(void)
+{
+    uint8_t area[HANTHUVELO_JOB_MAX], answer[HANTHUVELO_ANSWER_MAX];
+    memset(area, FILLING, sizeof area);
+
+    EXPECT(refused(hanthuvelo_trial(NULL, 0, NULL, 0, 0, 0, NULL, 0), HANTHUVELO_TOO_SHORT));
+    EXPECT(refused(trial(2, 8, 2, area, sizeof area), HANTHUVELO_TOO_SHORT));
+    EXPECT(refused(changed(2, 0x25, 1, 1, area), HANTHUVELO_SPARE_BIT));
+    EXPECT(refused(trial(4, 8, 2, area, sizeof area), HANTHUVELO_BYTE_COUNT));
+    EXPECT(refused(trial(3, 9, 2, area, sizeof area), HANTHUVELO_BYTE_COUNT));
+    EXPECT(refused(changed(0, 0x12, 1, 1, area), HANTHUVELO_TOO_FEW_ROWS));
+    EXPECT(refused(changed(0, 0x14, 1, 1, area), HANTHUVELO_TOO_MANY_ROWS));
+    EXPECT(refused(trial(3, 8, 8, area, sizeof area), HANTHUVELO_TOO_MANY_ROWS));
+    EXPECT(refused(changed(2, 0x24, 7, 7, area), HANTHUVELO_OUT_OF_RANGE));
+    EXPECT(refused(changed(2, 0x24, 3, 2, area), HANTHUVELO_NOT_REDUCED));
+    EXPECT(refused(trial(3, 8, 2, area, sizeof TRIAL_JOB - 1), HANTHUVELO_AREA_TOO_SHORT));
+    EXPECT(refused(trial(3, 8, 2, NULL, 0), HANTHUVELO_AREA_TOO_SHORT));
+    EXPECT(kept(area, 0, sizeof area));
+
+    struct hanthuvelo_written w = trial(3, 8, 2, area, sizeof area);
+    EXPECT(w.refusal == HANTHUVELO_WRITTEN && w.row == 0 && w.written == sizeof TRIAL_JOB);
+    EXPECT(memcmp(area, TRIAL_JOB, sizeof TRIAL_JOB) == 0);
+    EXPECT(kept(area, sizeof TRIAL_JOB, sizeof area));
+
+    EXPECT(same(hanthuvelo_recover(area, w.written, answer, sizeof answer), HANTHUVELO_RECOVERED, 0, 12, 2));
+    EXPECT(memcmp(answer, TRIAL_ANSWER, sizeof TRIAL_ANSWER) == 0);
+    return 0;
+}
+
+int main(void)
+{
+    return check_recover() || check_trial();
 }

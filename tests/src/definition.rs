@@ -48,8 +48,8 @@ pub fn candidates(job: &Job) -> u64 {
 }
 
 /// No polynomial of positive degree divides g and every fi. A divisor can be taken monic, and its
-/// degree is at most that of g.
-fn is_reduced(denominator: &[u32], numerators: &[Vec<u32>], prime: u32) -> bool {
+/// degree is at most that of g, which ends in its leading coefficient.
+pub fn is_reduced(denominator: &[u32], numerators: &[Vec<u32>], prime: u32) -> bool {
     let degree = denominator.len() - 1;
     monic_polynomials(degree, prime)
         .iter()

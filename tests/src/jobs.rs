@@ -7,6 +7,7 @@ pub mod measured;
 mod planted;
 mod random;
 mod tally;
+pub mod trial;
 
 use crate::layout::Answer;
 use hanthuvelo::hex;

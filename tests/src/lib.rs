@@ -13,7 +13,9 @@ pub mod program;
 pub mod second;
 pub mod statements;
 
-use hanthuvelo::Report;
+use hanthuvelo::{Report, Written};
+use std::io::Write;
+use std::str::FromStr;
 
 /// One way to recover a job into an area.
 #[derive(Clone, Copy)]
@@ -39,4 +41,46 @@ pub fn implementations() -> Vec<Implementation> {
             recover: second::recover,
         },
     ]
+}
+
+/// Writes to an area the trial job of a header, coefficients, a start and a number of spoiled rows.
+pub type WriteTrial = fn(&[u8], &[u8], u32, u32, &mut [u8]) -> Written;
+
+/// One way to write trial jobs.
+#[derive(Clone, Copy)]
+pub struct Writer {
+    pub name: &'static str,
+    pub trial: WriteTrial,
+}
+
+/// Every writer of trial jobs to be compared; the library's only where its feature is on.
+pub fn writers() -> Vec<Writer> {
+    vec![
+        #[cfg(feature = "library")]
+        Writer {
+            name: "library",
+            trial: hanthuvelo::trial,
+        },
+        Writer {
+            name: "second",
+            trial: second::trial,
+        },
+    ]
+}
+
+/// A number of the environment by which a run is changed, or the usual one.
+pub fn setting<T: FromStr>(name: &str, usual: T) -> T {
+    match std::env::var(name) {
+        Ok(text) => text
+            .parse()
+            .unwrap_or_else(|_| panic!("{name} must be a number: {text}")),
+        Err(_) => usual,
+    }
+}
+
+/// Writes past a test's capture, so that every run shows its counts.
+pub fn show(text: &str) {
+    std::io::stderr()
+        .write_all(text.as_bytes())
+        .expect("standard error takes text");
 }

@@ -4,22 +4,11 @@
 
 use hanthuvelo::hex;
 use hanthuvelo::Report;
-use outside_checks::implementations;
 use outside_checks::jobs::{generate, GeneratedJob, Tally};
-use std::io::Write;
-use std::str::FromStr;
+use outside_checks::{implementations, setting, show};
 
 const SEED: u64 = 20_140_601;
 const JOBS: u64 = 100_000;
-
-fn setting<T: FromStr>(name: &str, usual: T) -> T {
-    match std::env::var(name) {
-        Ok(text) => text
-            .parse()
-            .unwrap_or_else(|_| panic!("{name} must be a number: {text}")),
-        Err(_) => usual,
-    }
-}
 
 /// Every implementation's report, which must be the same, and so must the areas.
 fn agreed_report(job: &GeneratedJob) -> Report {
@@ -61,11 +50,10 @@ fn all_implementations_agree_on_generated_jobs() {
     }
     let names: Vec<&str> = implementations().iter().map(|each| each.name).collect();
     let (summary, enough) = tally.summary();
-    let text = format!("\nseed {seed}, compared: {}\n{summary}", names.join(", "));
-    // Written past the test's capture, so that every run shows its counts.
-    std::io::stderr()
-        .write_all(text.as_bytes())
-        .expect("standard error takes text");
+    show(&format!(
+        "\nseed {seed}, compared: {}\n{summary}",
+        names.join(", ")
+    ));
     assert!(enough, "too few jobs of a kind");
 }
 

@@ -6,7 +6,6 @@ use outside_checks::definition::{answers, candidates, for_each_list};
 use outside_checks::implementations;
 use outside_checks::jobs::Random;
 use outside_checks::layout::{Job, Row};
-use std::io::Write;
 
 const SEED: u64 = 31;
 const SURPLUS: usize = 3;
@@ -59,12 +58,9 @@ fn show(name: &str, counts: &Counts) {
         candidates,
     } = counts;
     let refused = jobs - answered;
-    let text = format!(
+    outside_checks::show(&format!(
         "{name}: {jobs} jobs, {answered} answered, {refused} refused, {candidates} pairs tried\n"
-    );
-    std::io::stderr()
-        .write_all(text.as_bytes())
-        .expect("standard error takes text");
+    ));
 }
 
 /// Every list of values at the points 0 to L − 1.

@@ -5,8 +5,7 @@ use hanthuvelo::Report;
 use outside_checks::jobs::enlargement::{generate, Pair};
 use outside_checks::jobs::Random;
 use outside_checks::layout::{is_right, packed_row, row_bit, Answer, Job, Row};
-use outside_checks::{implementations, Implementation};
-use std::io::Write;
+use outside_checks::{implementations, show, Implementation};
 
 const SEED: u64 = 5;
 const PAIRS: u64 = 12_000;
@@ -160,9 +159,7 @@ fn the_larger_job_follows_the_rule() {
         for (name, count, floor) in counts.lines() {
             text += &format!("{name:<36}{count:>8}  floor {floor:>6}\n");
         }
-        std::io::stderr()
-            .write_all(text.as_bytes())
-            .expect("standard error takes text");
+        show(&text);
         assert!(
             counts
                 .lines()

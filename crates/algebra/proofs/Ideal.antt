@@ -63,7 +63,7 @@ module _ (F : Field) where
     pub g'-polynomial : Polynomial R g'
 
   -- from the divisor of g and n of the f's, and the common divisor of that and the next
-  family-step : (n : ℕ) (f : ℕ → Series R) (g : Series R) (D : FamilyDivisor n f g) → CommonDivisor F (f n) (D .divisor)
+  unfoldable pub family-step : (n : ℕ) (f : ℕ → Series R) (g : Series R) (D : FamilyDivisor n f g) → CommonDivisor F (f n) (D .divisor)
       → FamilyDivisor (suc n) f g
   family-step n f g D C = record {
     divisor = C .divisor;
@@ -95,7 +95,7 @@ module _ (F : Field) where
       polynomial i l (yes e) = C .f'-polynomial
       polynomial i l (no e) = polynomial-mul R _ _ (C .g'-polynomial) (D .f'-polynomial i (omega arith))
 
-  pub family-divisor : (n : ℕ) (f : ℕ → Series R) (g : Series R) → ((i : ℕ) → i < n → Polynomial R (f i)) → Polynomial R g
+  unfoldable pub family-divisor : (n : ℕ) (f : ℕ → Series R) (g : Series R) → ((i : ℕ) → i < n → Polynomial R (f i)) → Polynomial R g
       → FamilyDivisor n f g
   family-divisor zero f g pf pg = record {
     divisor = g;

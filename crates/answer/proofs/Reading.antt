@@ -22,7 +22,7 @@ number-before : (x y : List ℕ) (k : ℕ) → k + 1 < length x → numberFrom (
 number-before x y k h = rw (List·getD-append x y 0 k (omega arith), List·getD-append x y 0 (k + 1) h)
 
 -- a number in the second
-number-behind : (x y : List ℕ) (j k : ℕ) → j ≡ length x + k → numberFrom (x ++ y) j ≡ numberFrom y k
+pub number-behind : (x y : List ℕ) (j k : ℕ) → j ≡ length x + k → numberFrom (x ++ y) j ≡ numberFrom y k
 number-behind x y j k place =
     let next : j + 1 ≡ length x + (k + 1) = omega arith in
     rw (next, place, getD-append-add x y k 0, getD-append-add x y (k + 1) 0)
@@ -37,7 +37,7 @@ word-of-bytes w small =
     let quotient : w / 256 / 256 ≡ w / 65536 = div-div-eq-div-mul w 256 256 in
     omega arith
 
-coefficient-of-bytes : (a : List ℕ) → SixteenBits a → (count k : ℕ) → k < count → numberFrom (coefficientBytes a count) (2 * k) ≡ getD a k 0
+pub coefficient-of-bytes : (a : List ℕ) → SixteenBits a → (count k : ℕ) → k < count → numberFrom (coefficientBytes a count) (2 * k) ≡ getD a k 0
 unfolding coefficientBytes
 coefficient-of-bytes a low zero k h = absurd (omega arith)
 coefficient-of-bytes a low (suc count) k h =

@@ -21,7 +21,7 @@ fn put_word(area: &mut [u8], word: u32) -> usize
 }
 
 // A 16-bit number from a place on; returns the place behind it.
-fn put_number(area: &mut [u8], at: usize, value: u32) -> usize
+pub fn put_number(area: &mut [u8], at: usize, value: u32) -> usize
     requires { ⌜ at + 2 ≤ length (now area) ⌝ }
     ensures { λ r. ⌜ (r ≡ at + 2) × (now (area .exit) ≡ spliced at (twoBytes value) (now (area .entry))) ⌝ }
 {

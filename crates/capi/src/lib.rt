@@ -1,6 +1,11 @@
-// The library's exported function, for callers in C and Rust. include/hanthuvelo.h declares it.
+// The library's exported functions, for callers in C and Rust. include/hanthuvelo.h declares them.
+ghost use mathlib.Core.Path.{_≡_};
+ghost use Rattle.format.specs.Outcomes.{writingReportOf};
 ghost use Rattle.recovery.specs.Recovery.{Settled};
+ghost use Rattle.trial.specs.Trial.{Trial};
 use format::Report;
+use format::Writing;
+use format::WritingReport;
 
 // Any job, any area: the caller owes nothing. The report is in the paper's numbers.
 #[no_mangle]
@@ -9,4 +14,40 @@ pub extern "C" fn hanthuvelo_recover(job: &[u8], area: &mut [u8]) -> Report
 {
     let outcome = recovery::recover(job, area);
     format::reported(outcome)
+}
+
+// What a call that writes answers, in the papers' numbers.
+fn writing_reported(writing: Writing) -> WritingReport
+    ensures { λ r. ⌜ r ≡ writingReportOf writing ⌝ }
+{
+    match writing {
+        Writing::Written { bytes } => WritingReport {
+            refusal: 0,
+            row: 0,
+            written: bytes,
+        },
+        Writing::Refused { reason, row } => {
+            let refusal = format::number(reason);
+            WritingReport {
+                refusal: refusal,
+                row: row,
+                written: 0,
+            }
+        }
+    }
+}
+
+// Any header, coefficients, start and number of rows to be spoiled, any area for the job: the caller owes nothing.
+#[no_mangle]
+pub extern "C" fn hanthuvelo_trial(
+    header: &[u8],
+    coefficients: &[u8],
+    start: u32,
+    spoiled: u32,
+    area: &mut [u8],
+) -> WritingReport
+    ensures { λ r. ⌜ Trial (now (header .entry)) (now (coefficients .entry)) start spoiled (now (area .entry)) r (now (area .exit)) ⌝ }
+{
+    let writing = trial::trial(header, coefficients, start, spoiled, area);
+    writing_reported(writing)
 }

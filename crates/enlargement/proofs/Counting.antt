@@ -4,18 +4,14 @@ use mathlib.Core.Path.{_≡_, refl, sym, _∙_, ap}
 use mathlib.Core.Logic.{_≢_, _⊎_, inl, inr}
 use mathlib.Core.Bool.{Bool, true, false, not, _&&_}
 use Prim.Native.Nat.{ℕ, zero, suc, _+_, _≤_, _<_}
-use native.Mathlib.Decide.{ℕ-discrete}
 use native.Mathlib.Omega.{arith}
+use Rattle.lists.proofs.Truth.{never-true}
 use Rattle.row_search.specs.declared.Found.{Found}
 use Rattle.row_search.specs.declared.Found.the-variants.{At, Nothing}
 use Rattle.row_search.specs.Search.{firstBelow, anyBelow, isFound, orElse}
 use Rattle.row_search.proofs.FirstBelow.{none-below}
 use Rattle.word.specs.Word.{flagOf, countBelow}
-use Rattle.problem.proofs.Same.{count-same}
-
-not-true : (t : Bool) → (t ≡ true → ⊥) → t ≡ false
-not-true true n = absurd (n refl)
-not-true false n = refl
+use Rattle.word.proofs.Counts.{count-change}
 
 -- one number more, which fails the test, or passes it
 any-more : (n : ℕ) (test : ℕ → Bool) → test n ≡ false → anyBelow (suc n) test ≡ anyBelow n test
@@ -45,25 +41,6 @@ passes-or-none (suc n) test = by (test n) refl (passes-or-none n test)
     by true e c = inl (n, omega arith, e)
     by false e (inl t) = inl (t .0, (let l = t .1 in omega arith), t .2)
     by false e (inr none) = inr (any-more n test e ∙ none)
-
--- tests that differ at the place j only, where the second fails
-count-change : (test test' : ℕ → Bool) (m j : ℕ) → j < m → ((l : ℕ) → l < m → l ≢ j → test l ≡ test' l) → test' j ≡ false
-    → countBelow m test ≡ countBelow m test' + flagOf (test j)
-unfolding countBelow
-count-change test test' zero j h same none = absurd (omega arith)
-count-change test test' (suc m) j h same none = by (ℕ-discrete j m) (λ l. count-change test test' m j l (λ i k. same i (omega arith)) none)
-  where
-    by : Dec (j ≡ m) → (j < m → countBelow m test ≡ countBelow m test' + flagOf (test j))
-        → countBelow m test + flagOf (test m) ≡ countBelow m test' + flagOf (test' m) + flagOf (test j)
-    by (yes e) ih =
-        let before = count-same m test test' (λ l k. same l (omega arith) (λ e'. omega arith)) in
-        let zero' : flagOf (test' m) ≡ 0 = ap (λ i. flagOf (test' i)) (sym e) ∙ ap flagOf none in
-        let last : flagOf (test m) ≡ flagOf (test j) = ap (λ i. flagOf (test i)) (sym e) in
-        omega arith
-    by (no ne) ih =
-        let before = ih (omega arith) in
-        let last : flagOf (test m) ≡ flagOf (test' m) = ap flagOf (same m (omega arith) (λ e. ne (sym e))) in
-        omega arith
 
 -- `same i j` tests whether row i of the first table is row j of the second; bad and bad' test the rows of the tables
 module _ (same : ℕ → ℕ → Bool) (bad bad' : ℕ → Bool) where
@@ -95,14 +72,14 @@ module _ (same : ℕ → ℕ → Bool) (bad bad' : ℕ → Bool) where
 
         other : (m : ℕ) → m < L' → m ≢ j → furtherBad k m ≡ furtherBad (suc k) m
         other m h ne = ap (λ t. not t && bad' m)
-            (sym (any-more k (λ i. same i m) (not-true _ (λ e. ne (H .second k m j h (H .holds k l .1) e (H .holds k l .2))))))
+            (sym (any-more k (λ i. same i m) (never-true _ (λ e. ne (H .second k m j h (H .holds k l .1) e (H .holds k l .2))))))
 
         gone : furtherBad (suc k) j ≡ false
         gone = ap (λ t. not t && bad' j) (any-here k (λ i. same i j) (H .holds k l .2))
 
         here : furtherBad k j ≡ bad k
         here = ap (λ t. not (isFound t) && bad' j)
-            (none-below (λ i. same i j) k (λ i h. not-true _ (λ e. let s = H .first i k j (omega arith) l e (H .holds k l .2) in omega arith)))
+            (none-below (λ i. same i j) k (λ i h. never-true _ (λ e. let s = H .first i k j (omega arith) l e (H .holds k l .2) in omega arith)))
             ∙ sym (H .equal k j (H .holds k l .2))
 
     pub bad-adds : countBelow L' bad' ≡ countBelow L bad + countBelow L' (furtherBad L)

@@ -1,4 +1,4 @@
--- The refusals' numbers: 1 to 8, one for each reason.
+-- The refusals' numbers: 1 to 10, one for each reason.
 use mathlib.Core.Path.{_≡_, refl, ap, _∙_, sym}
 use mathlib.Core.List.{[], _∷_}
 use Prim.Native.Nat.{ℕ, _<_}
@@ -14,6 +14,8 @@ use Rattle.format.specs.declared.Reason.the-variants.{
   RepeatedPoint,
   AreaTooShort,
   NoAnswer,
+  TooManyRows,
+  NotReduced,
 }
 use Rattle.format.specs.Outcomes.{numberOf}
 
@@ -26,11 +28,13 @@ number-positive OutOfRange = omega arith
 number-positive RepeatedPoint = omega arith
 number-positive AreaTooShort = omega arith
 number-positive NoAnswer = omega arith
+number-positive TooManyRows = omega arith
+number-positive NotReduced = omega arith
 
 -- the reasons, each at the place of its number
 abbrev reasonAt : ℕ → Reason
 reasonAt n =
-    getD (NoAnswer ∷ TooShort ∷ SpareBit ∷ ByteCount ∷ TooFewRows ∷ OutOfRange ∷ RepeatedPoint ∷ AreaTooShort ∷ NoAnswer ∷ []) n NoAnswer
+    getD (NoAnswer ∷ TooShort ∷ SpareBit ∷ ByteCount ∷ TooFewRows ∷ OutOfRange ∷ RepeatedPoint ∷ AreaTooShort ∷ NoAnswer ∷ TooManyRows ∷ NotReduced ∷ []) n NoAnswer
 
 reason-of-number : (reason : Reason) → reasonAt (numberOf reason) ≡ reason
 reason-of-number TooShort = refl
@@ -41,6 +45,8 @@ reason-of-number OutOfRange = refl
 reason-of-number RepeatedPoint = refl
 reason-of-number AreaTooShort = refl
 reason-of-number NoAnswer = refl
+reason-of-number TooManyRows = refl
+reason-of-number NotReduced = refl
 
 pub number-injective : (q q' : Reason) → numberOf q ≡ numberOf q' → q ≡ q'
 number-injective q q' e = sym (reason-of-number q) ∙ ap reasonAt e ∙ reason-of-number q'

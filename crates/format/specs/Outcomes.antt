@@ -1,4 +1,4 @@
--- An outcome in paper 01's numbers.
+-- An outcome in the papers' numbers.
 use Prim.Native.Nat.{ℕ}
 use Rattle.format.specs.declared.Reason.{Reason}
 use Rattle.format.specs.declared.Reason.the-variants.{
@@ -10,12 +10,17 @@ use Rattle.format.specs.declared.Reason.the-variants.{
   RepeatedPoint,
   AreaTooShort,
   NoAnswer,
+  TooManyRows,
+  NotReduced,
 }
 use Rattle.format.specs.declared.Report.{Report}
 use Rattle.format.specs.declared.Outcome.{Outcome}
 use Rattle.format.specs.declared.Outcome.the-variants.{Accepted, Recovered, Refused}
+use Rattle.format.specs.declared.WritingReport.{WritingReport}
+use Rattle.format.specs.declared.Writing.{Writing}
+use Rattle.format.specs.declared.Writing.the-variants as writing
 
--- the number of a refusal in paper 01's table
+-- the number of a refusal: 1 to 8 in paper 01's table, 9 and 10 in paper 02, item 1
 abbrev pub numberOf : Reason → ℕ
 numberOf TooShort = 1
 numberOf SpareBit = 2
@@ -25,6 +30,8 @@ numberOf OutOfRange = 5
 numberOf RepeatedPoint = 6
 numberOf AreaTooShort = 7
 numberOf NoAnswer = 8
+numberOf TooManyRows = 9
+numberOf NotReduced = 10
 
 -- "A refusal carries its number and the row it speaks of": it writes nothing, and no rows are counted
 abbrev pub refusedReport : (number row : ℕ) → Report
@@ -39,3 +46,14 @@ abbrev pub reportOf : Outcome → Report
 reportOf Accepted = recoveredReport 0 0
 reportOf (Recovered bytes wrong) = recoveredReport bytes wrong
 reportOf (Refused reason row) = refusedReport (numberOf reason) row
+
+-- the same of a call that writes and recovers nothing
+abbrev pub refusedWriting : (number row : ℕ) → WritingReport
+refusedWriting number row = record { refusal = number; row = row; written = 0 }
+
+abbrev pub writtenReport : (bytes : ℕ) → WritingReport
+writtenReport bytes = record { refusal = 0; row = 0; written = bytes }
+
+abbrev pub writingReportOf : Writing → WritingReport
+writingReportOf (writing.Written bytes) = writtenReport bytes
+writingReportOf (writing.Refused reason row) = refusedWriting (numberOf reason) row

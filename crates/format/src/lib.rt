@@ -31,7 +31,7 @@ impl Bounds {
     }
 }
 
-// Paper 01's table of refusals: the eight refusals in the order of their numbers.
+// The refusals in the order of their numbers: the eight of paper 01's table, then those of paper 02, which recovery never gives.
 pub enum Reason {
     TooShort,
     SpareBit,
@@ -41,6 +41,8 @@ pub enum Reason {
     RepeatedPoint,
     AreaTooShort,
     NoAnswer,
+    TooManyRows,
+    NotReduced,
 }
 
 // What a call answers. Accepted is the reader's answer to a well-formed job; recovery never gives it.
@@ -50,7 +52,7 @@ pub enum Outcome {
     Refused { reason: Reason, row: u32 },
 }
 
-// The refusal's number in paper 01.
+// The refusal's number in the papers.
 pub fn number(reason: Reason) -> u32
     ensures { λ r. ⌜ r ≡ numberOf reason ⌝ }
 {
@@ -63,6 +65,8 @@ pub fn number(reason: Reason) -> u32
         Reason::RepeatedPoint => 6,
         Reason::AreaTooShort => 7,
         Reason::NoAnswer => 8,
+        Reason::TooManyRows => 9,
+        Reason::NotReduced => 10,
     }
 }
 
@@ -102,4 +106,18 @@ pub fn reported(outcome: Outcome) -> Report
             }
         }
     }
+}
+
+// What a call answers that writes an area and recovers nothing.
+pub enum Writing {
+    Written { bytes: u32 },
+    Refused { reason: Reason, row: u32 },
+}
+
+// The same in the papers' numbers: the refusal (0 where none), the row it names, the bytes written. Callers in C get it as it stands here.
+#[repr(C)]
+pub struct WritingReport {
+    pub refusal: u32,
+    pub row: u32,
+    pub written: u32,
 }

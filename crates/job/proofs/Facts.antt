@@ -40,7 +40,7 @@ use Rattle.job.specs.Refusals.{
   WellFormed,
 }
 
-or-false : (a b : Bool) → (a || b) ≡ false → (a ≡ false) × (b ≡ false)
+pub or-false : (a b : Bool) → (a || b) ≡ false → (a ≡ false) × (b ≡ false)
 or-false true b e = absurd (true≢false e)
 or-false false b e = (refl, e)
 
@@ -81,19 +81,19 @@ pub record WellFormedFacts (s : List ℕ) (area : ℕ) : Type 0 where
   pub distinct : (q r : ℕ) → q < boundsOf s .rows → r < boundsOf s .rows → jobPoint s q ≡ jobPoint s r → q ≡ r
   pub enough-area : answerLengthOf (boundsOf s) ≤ area
 
-refused-not-accepted : {reason : Reason} {row : ℕ} → Refused reason row ≡ Accepted → ⊥
+pub refused-not-accepted : {reason : Reason} {row : ℕ} → Refused reason row ≡ Accepted → ⊥
 refused-not-accepted e = clash cc
 
 -- a test that leaves the job accepted found nothing, and so did the later ones
-passed : (reason : Reason) (f : Found) (later : Outcome) → refuse reason f later ≡ Accepted → (f ≡ Nothing) × (later ≡ Accepted)
+pub passed : (reason : Reason) (f : Found) (later : Outcome) → refuse reason f later ≡ Accepted → (f ≡ Nothing) × (later ≡ Accepted)
 passed reason (At row) later e = absurd (refused-not-accepted e)
 passed reason Nothing later e = (refl, e)
 
-does-not-hold : (b : Bool) → ifHolds b 0 ≡ Nothing → b ≡ false
+pub does-not-hold : (b : Bool) → ifHolds b 0 ≡ Nothing → b ≡ false
 does-not-hold true e = absurd (at-not-nothing e)
 does-not-hold false e = refl
 
-two-values : (h : ℕ) → (h % 2 ≡ 1 → ⊥) → h % 2 ≡ 0
+pub two-values : (h : ℕ) → (h % 2 ≡ 1 → ⊥) → h % 2 ≡ 0
 two-values h other = omega arith
 
 module _ (s : List ℕ) (area : ℕ) where

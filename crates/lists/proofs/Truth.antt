@@ -1,7 +1,12 @@
 -- Truth values.
-use mathlib.Core.Path.{_≡_}
-use mathlib.Core.Bool.{true, false, true≢false}
+use mathlib.Core.Path.{_≡_, refl}
+use mathlib.Core.Bool.{Bool, true, false, true≢false}
 
 -- Anything follows from a contradiction. Where the facts in scope make two constructors equal, `cc` proves this one: `clash cc`.
 pub clash : {A : Type 0} → true ≡ false → A
 clash e = absurd (true≢false e)
+
+-- a truth value that cannot be true
+pub never-true : (b : Bool) → (b ≡ true → ⊥) → b ≡ false
+never-true true n = absurd (n refl)
+never-true false n = refl

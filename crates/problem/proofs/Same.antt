@@ -1,6 +1,5 @@
 -- Vectors compared by their coefficients: of the same vector the same rows are wrong, it is an answer of the same jobs, and its bytes are the same.
 use mathlib.Core.Path.{_≡_, refl, sym, _∙_, ap, ap₂, subst}
-use mathlib.Core.Bool.{Bool}
 use mathlib.Core.List.{List, _++_}
 use Prim.Native.Nat.{ℕ, zero, suc, _+_, _%_, _<_}
 use native.Mathlib.Omega.{arith}
@@ -9,17 +8,12 @@ use Rattle.format.specs.Bounds.{primeOf, numeratorBoundOf}
 use Rattle.poly.specs.Coefficients.{at, Bounded}
 use Rattle.header.specs.Header.{boundsOf}
 use Rattle.rows.specs.Rows.{jobPoint}
-use Rattle.word.specs.Word.{flagOf, countBelow}
 use Rattle.word.proofs.Words.{word-same}
+use Rattle.word.proofs.Counts.{count-same}
 use Rattle.answer.specs.Bytes.{twoBytes, fourBytes, coefficientBytes, outputBytes, answerBytes}
 use Rattle.problem.specs.Reduced.{Divides, Same}
 use Rattle.problem.specs.Answers.{wrongAt, wrongCount, Answer, recoveredBytes}
 use Rattle.problem.proofs.Rows.{wrong-same}
-
-pub count-same : (n : ℕ) (t t' : ℕ → Bool) → ((r : ℕ) → r < n → t r ≡ t' r) → countBelow n t ≡ countBelow n t'
-unfolding countBelow
-count-same zero t t' h = refl
-count-same (suc n) t t' h = ap₂ (λ m b. m + flagOf b) (count-same n t t' (λ r l. h r (omega arith))) (h n (omega arith))
 
 bounded-same : {p n : ℕ} {a b : List ℕ} → ((k : ℕ) → at a k ≡ at b k) → Bounded p n a → Bounded p n b
 bounded-same {p} e h = record { residues = λ k. subst (λ t. t < p) (e k) (h .residues k); within = λ k l. sym (e k) ∙ h .within k l }

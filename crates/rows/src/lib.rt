@@ -20,7 +20,7 @@ pub struct Rows {
 }
 
 // The number at bytes k and k + 1.
-fn number_from(s: &[u8], k: usize) -> u32
+pub fn number_from(s: &[u8], k: usize) -> u32
     requires { ⌜ k + 1 < length (now s) ⌝ }
     ensures { λ r. ⌜ r ≡ numberFrom (now (s .entry)) k ⌝ }
 {

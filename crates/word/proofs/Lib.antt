@@ -1,3 +1,4 @@
 pub mod Words
 pub mod Marks
 mod Examples
+pub mod Counts

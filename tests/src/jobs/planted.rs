@@ -112,7 +112,7 @@ fn least(shape: Shape, wrong: WrongRows) -> Least {
 }
 
 /// Prime, bounds and points; the values are zeros for now.
-fn header(random: &mut Random, shape: Shape, wrong: WrongRows) -> Job {
+pub fn header(random: &mut Random, shape: Shape, wrong: WrongRows) -> Job {
     let prime_code = match shape {
         Shape::WholeField => 0,
         Shape::LooseBounds => random.between(1, 3),

@@ -145,17 +145,22 @@ impl Tally {
 
     /// All counts as text, and whether each reaches its floor.
     pub fn summary(&self) -> (String, bool) {
-        let mut text = String::new();
-        let mut enough = true;
-        for (name, count, floor) in self.outcome_lines().into_iter().chain(self.input_lines()) {
-            let mark = if count < floor {
-                "  BELOW ITS FLOOR"
-            } else {
-                ""
-            };
-            enough &= count >= floor;
-            text += &format!("{name:<36}{count:>8}  floor {floor:>6}{mark}\n");
-        }
-        (text, enough)
+        with_floors(self.outcome_lines().into_iter().chain(self.input_lines()))
     }
+}
+
+/// Names with their counts and floors as text, and whether each count reaches its floor.
+pub fn with_floors(lines: impl Iterator<Item = (String, usize, usize)>) -> (String, bool) {
+    let mut text = String::new();
+    let mut enough = true;
+    for (name, count, floor) in lines {
+        let mark = if count < floor {
+            "  BELOW ITS FLOOR"
+        } else {
+            ""
+        };
+        enough &= count >= floor;
+        text += &format!("{name:<38}{count:>8}  floor {floor:>6}{mark}\n");
+    }
+    (text, enough)
 }

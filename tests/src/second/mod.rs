@@ -2,18 +2,22 @@
 //!
 //! It shares no code with the library or with `plain`, and its method is another one. It reads the
 //! job bytes, tests the refusals, solves by Gaussian elimination and writes the answer by itself.
+//! Beside it the second writer of trial jobs, as separate.
 
 mod equations;
 mod field;
 pub mod polynomial;
 mod reader;
+pub mod reduced;
 mod text;
+mod trial;
 
 pub use field::Field;
 use hanthuvelo::Report;
 use polynomial::Polynomial;
 use reader::{Problem, Row};
 pub use text::printed;
+pub use trial::{next_word, trial, trial_job, TrialJob};
 
 /// A reduced answer: g with leading coefficient 1, and one numerator for each output.
 struct Candidate {

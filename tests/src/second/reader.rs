@@ -22,14 +22,26 @@ pub struct Problem {
     pub rows: Vec<Row>,
 }
 
-struct Header {
+/// The fields of the three bytes that a job begins with.
+pub struct Header {
     code: usize,
-    outputs: usize,
-    row_count: usize,
-    numerator_bound: usize,
-    denominator_bound: usize,
+    pub outputs: usize,
+    pub row_count: usize,
+    pub numerator_bound: usize,
+    pub denominator_bound: usize,
     error_bound: usize,
-    spare: usize,
+    pub spare: usize,
+}
+
+impl Header {
+    pub fn prime(&self) -> u32 {
+        PRIMES[self.code]
+    }
+
+    /// df + dg + 2E + 1.
+    pub fn needed_rows(&self) -> usize {
+        self.numerator_bound + self.denominator_bound + 2 * self.error_bound + 1
+    }
 }
 
 /// The job that `bytes` hold, or the first refusal that applies before 8.
@@ -41,11 +53,9 @@ pub fn read(bytes: &[u8], area_length: usize) -> Result<Problem, Refusal> {
         3,
         0,
     )?;
-    let needed_rows =
-        header.numerator_bound + header.denominator_bound + 2 * header.error_bound + 1;
-    refuse_if(header.row_count < needed_rows, 4, 0)?;
+    refuse_if(header.row_count < header.needed_rows(), 4, 0)?;
     let problem = Problem {
-        prime: PRIMES[header.code],
+        prime: header.prime(),
         outputs: header.outputs,
         numerator_bound: header.numerator_bound,
         denominator_bound: header.denominator_bound,
@@ -58,7 +68,7 @@ pub fn read(bytes: &[u8], area_length: usize) -> Result<Problem, Refusal> {
     Ok(problem)
 }
 
-fn refuse_if(applies: bool, number: u32, row: u32) -> Result<(), Refusal> {
+pub fn refuse_if(applies: bool, number: u32, row: u32) -> Result<(), Refusal> {
     if applies {
         Err(Refusal { number, row })
     } else {
@@ -77,7 +87,7 @@ fn refuse_row(found: Option<usize>, number: u32) -> Result<(), Refusal> {
 }
 
 /// The 24 header bits as one number, taken apart from its low end.
-fn read_header(bytes: &[u8]) -> Result<Header, Refusal> {
+pub fn read_header(bytes: &[u8]) -> Result<Header, Refusal> {
     refuse_if(bytes.len() < 3, 1, 0)?;
     let mut rest = u32::from_be_bytes([0, bytes[0], bytes[1], bytes[2]]) as usize;
     let mut take = |width: u32| {

@@ -13,11 +13,14 @@ use page::Page;
 use std::path::{Path, PathBuf};
 use walk::Walk;
 
-/// The functions whose contracts are the demands, each in the sources of its crate.
-pub const ROOTS: [(&str, &str); 3] = [
+/// The functions whose contracts are the demands and the requests, each in the sources of its crate.
+pub const ROOTS: [(&str, &str); 6] = [
     ("recovery", "recover"),
     ("enlargement", "recover_both"),
     ("capi", "hanthuvelo_recover"),
+    ("trial", "trial"),
+    ("trial_recovery", "write_and_recover"),
+    ("capi", "hanthuvelo_trial"),
 ];
 
 /// Where the page stands in the repository.

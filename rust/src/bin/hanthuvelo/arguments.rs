@@ -2,6 +2,7 @@
 
 use crate::output::Failure;
 use std::ffi::{OsStr, OsString};
+use std::ops::RangeInclusive;
 
 /// An option that a verb knows.
 #[derive(Clone, Copy)]
@@ -91,6 +92,28 @@ impl Arguments {
             )));
         }
         Ok(())
+    }
+
+    /// Refuses an option without the one that it belongs to.
+    pub fn need_beside(&self, name: &str, other: &str) -> Result<(), Failure> {
+        if self.has(name) && !self.has(other) {
+            return Err(Failure::bad_use(format!("expected {other} beside {name}")));
+        }
+        Ok(())
+    }
+
+    /// The value of an option as a number in a range.
+    pub fn number(&self, name: &str, range: RangeInclusive<u32>) -> Result<Option<u32>, Failure> {
+        let Some(value) = self.value(name) else {
+            return Ok(None);
+        };
+        let (low, high) = (range.start(), range.end());
+        match value.parse() {
+            Ok(number) if range.contains(&number) => Ok(Some(number)),
+            _ => Err(Failure::bad_use(format!(
+                "expected a number from {low} to {high} behind {name}, found `{value}`"
+            ))),
+        }
     }
 
     pub fn at_least_one_file(&self) -> Result<(), Failure> {

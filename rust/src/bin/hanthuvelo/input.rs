@@ -1,9 +1,9 @@
-//! Jobs from files, readable or binary.
+//! Jobs from files, readable or binary, and readable trials.
 
 use crate::arguments::Arguments;
 use crate::output::Failure;
 use hanthuvelo::readable::{self, TextError};
-use hanthuvelo::{FormatError, Job};
+use hanthuvelo::{FormatError, Job, Trial};
 use std::ffi::OsStr;
 use std::fmt::{Display, Formatter};
 use std::fs::File;
@@ -153,4 +153,10 @@ pub fn job(file: &OsStr, form: Form) -> Result<Job, InputError> {
             Job::unpack(&bytes).map_err(wrong)
         }
     }
+}
+
+/// The trial in a file, which is readable.
+pub fn trial(file: &OsStr) -> Result<Trial, InputError> {
+    let bytes = read(file, "a trial")?;
+    readable::parse_trial(&bytes).map_err(|error| error_in(file, error))
 }

@@ -1,4 +1,4 @@
-//! The command `hanthuvelo`: jobs recovered, packed and shown for people.
+//! The command `hanthuvelo`: jobs recovered, packed and shown for people, and trial jobs written.
 
 mod arguments;
 mod convert;
@@ -11,6 +11,7 @@ mod progress;
 mod recover;
 mod render;
 mod results;
+mod trial;
 
 use output::Failure;
 use std::ffi::OsString;
@@ -31,7 +32,7 @@ struct Verb {
     run: fn(&[OsString]) -> Result<Status, Failure>,
 }
 
-const VERBS: [Verb; 4] = [
+const VERBS: [Verb; 5] = [
     Verb {
         name: "recover",
         summary: "the fractions and the wrong rows of jobs",
@@ -56,6 +57,12 @@ const VERBS: [Verb; 4] = [
         help: convert::UNPACK_HELP,
         run: convert::unpack,
     },
+    Verb {
+        name: "trial",
+        summary: "jobs whose result is known, from fractions",
+        help: trial::HELP,
+        run: trial::run,
+    },
 ];
 
 const ABOUT: &str = "\
@@ -67,7 +74,7 @@ usage: hanthuvelo VERB [OPTION].. FILE..
 ";
 
 const STATUS: &str = "
-FILE is a job as bytes, or a readable one, told apart by its bytes; - is standard input.
+FILE is a job as bytes, or a readable one, told apart by its bytes; of trial a readable trial; - is standard input.
 Exit status: 0 done; 1 a job was refused; 2 bad use, or an input that cannot be read.
 ";
 

@@ -55,9 +55,7 @@ impl Wanted {
         arguments.at_least_one_file()?;
         arguments.exclude("--json", "--bytes")?;
         arguments.exclude("--stream", "--readable")?;
-        if arguments.has("--hex") && !arguments.has("--bytes") {
-            return Err(Failure::bad_use("expected --bytes beside --hex"));
-        }
+        arguments.need_beside("--hex", "--bytes")?;
         let format = match (arguments.has("--json"), arguments.has("--bytes")) {
             (true, _) => Format::Json,
             (_, true) if arguments.has("--hex") => Format::Hex,
@@ -68,22 +66,17 @@ impl Wanted {
             format,
             form: Form::from(arguments)?,
             is_stream: arguments.has("--stream"),
-            threads: threads(arguments.value("--threads"))?,
+            threads: threads(arguments)?,
         })
     }
 }
 
-fn threads(value: Option<&str>) -> Result<usize, Failure> {
-    const MOST: usize = 1024;
-    let Some(value) = value else {
-        return Ok(thread::available_parallelism().map_or(1, usize::from));
-    };
-    match value.parse() {
-        Ok(threads) if (1..=MOST).contains(&threads) => Ok(threads),
-        _ => Err(Failure::bad_use(format!(
-            "expected a number from 1 to {MOST} behind --threads, found `{value}`"
-        ))),
-    }
+fn threads(arguments: &Arguments) -> Result<usize, Failure> {
+    const MOST: u32 = 1024;
+    Ok(match arguments.number("--threads", 1..=MOST)? {
+        Some(threads) => threads as usize,
+        None => thread::available_parallelism().map_or(1, usize::from),
+    })
 }
 
 pub fn run(words: &[OsString]) -> Result<Status, Failure> {

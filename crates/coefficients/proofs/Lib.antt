@@ -1,0 +1,4 @@
+pub mod Places
+pub mod Ranges
+pub mod Written
+mod Numerators

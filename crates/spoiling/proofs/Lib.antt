@@ -1,0 +1,4 @@
+pub mod Added
+pub mod Distinct
+mod Storing
+mod Examples

@@ -1,0 +1,102 @@
+-- What the tests before 10 say where none of them applies, and that they either refuse or leave the word to the later ones.
+use mathlib.Core.List.{List}
+use mathlib.Core.Logic.{_⊎_, inl, inr}
+use mathlib.Core.Path.{_≡_, refl, sym, _∙_}
+use Prim.Native.Nat.{ℕ, _*_, _/_, _<_, _≤_}
+use borrow.Author.Tests.{eqb-true, eqb-false, ltb-false, leb-false, not-false}
+use lib.Dec.{leb}
+use lib.ListN.{length}
+use Rattle.format.specs.Bounds.{primeOf, Storable}
+use Rattle.format.specs.Numbers.{numberFrom}
+use Rattle.format.specs.declared.Reason.{Reason}
+use Rattle.format.specs.declared.Reason.the-variants.{TooShort, SpareBit, ByteCount, TooFewRows, OutOfRange, TooManyRows}
+use Rattle.format.specs.declared.Outcome.{Outcome}
+use Rattle.format.specs.declared.Outcome.the-variants.{Accepted, Refused}
+use Rattle.cursor.specs.Bits.{headerOf}
+use Rattle.header.specs.Header.{boundsOf, spareBitOf, rowsNeededOf}
+use Rattle.header.proofs.Fields.{narrow}
+use Rattle.row_search.specs.declared.Found.{Found}
+use Rattle.row_search.specs.declared.Found.the-variants.{At, Nothing}
+use Rattle.row_search.specs.Search.{ifHolds}
+use Rattle.row_search.proofs.FirstBelow.{any-passes}
+use Rattle.job.specs.Refusals.{tooShort, spareBitIsOne, tooFewRows, refuse}
+use Rattle.job.proofs.Facts.{or-false, refused-not-accepted, passed, does-not-hold, two-values}
+use Rattle.coefficients.specs.Coefficients.{coefficientLengthOf, anyTooLarge}
+use Rattle.trial.specs.Refusals.{byteCountsDiffer, tooManyRows, testedNumbers, testedBefore}
+
+pub storable : (h : List ℕ) → Storable (boundsOf h)
+storable h =
+    let fields = narrow h in
+    record { few = fields .outputs-most; denominator-low = fields .dg-most; numerators-low = λ i. fields .df-most }
+
+-- where no test before 10 applies
+pub record TrialFacts (h c : List ℕ) (w : ℕ) : Type 0 where
+  pub header-bytes : length h ≡ 3
+  pub spare-bit : spareBitOf h ≡ 0
+  pub coefficient-bytes : length c ≡ coefficientLengthOf (boundsOf h)
+  pub enough-rows : rowsNeededOf (boundsOf h) ≤ boundsOf h .rows
+  pub distinct-points : boundsOf h .rows ≤ primeOf (boundsOf h)
+  pub few-spoiled : w ≤ boundsOf h .rows
+  pub coefficients-in-range : (k : ℕ) → k < length c / 2 → numberFrom c (2 * k) < primeOf (boundsOf h)
+
+pub trial-facts : (h c : List ℕ) (w : ℕ) → testedBefore h c w Accepted ≡ Accepted → TrialFacts h c w
+unfolding testedBefore testedNumbers spareBitOf
+trial-facts h c w accepted =
+    let t1 = passed TooShort (ifHolds (tooShort h) 0) _ accepted in
+    let t2 = passed SpareBit (ifHolds (spareBitIsOne h) 0) _ (t1 .1) in
+    let t3 = passed ByteCount (ifHolds (byteCountsDiffer h c) 0) _ (t2 .1) in
+    let t4 = passed TooFewRows (ifHolds (tooFewRows h) 0) _ (t3 .1) in
+    let t9 = passed TooManyRows (ifHolds (tooManyRows (boundsOf h) w) 0) _ (t4 .1) in
+    let t5 = passed OutOfRange (ifHolds (anyTooLarge (boundsOf h) c) 0) _ (t9 .1) in
+    let counts = or-false _ _ (does-not-hold (byteCountsDiffer h c) (t3 .0)) in
+    let rows = or-false _ _ (does-not-hold (tooManyRows (boundsOf h) w) (t9 .0)) in
+    record {
+      header-bytes = eqb-true _ _ (not-false _ (counts .0));
+      spare-bit = two-values (headerOf h) (eqb-false _ _ (does-not-hold (spareBitIsOne h) (t2 .0)));
+      coefficient-bytes = eqb-true _ _ (not-false _ (counts .1));
+      enough-rows = ltb-false _ _ (does-not-hold (tooFewRows h) (t4 .0));
+      distinct-points = ltb-false _ _ (rows .0);
+      few-spoiled = ltb-false _ _ (rows .1);
+      coefficients-in-range = λ k l. leb-false _ _
+          (any-passes (λ j. leb (primeOf (boundsOf h)) (numberFrom c (2 * j))) (length c / 2) (does-not-hold (anyTooLarge (boundsOf h) c) (t5 .0)) k l);
+    }
+
+-- tests either refuse, whatever the later ones say, or answer as these do
+abbrev Decisive : (Outcome → Outcome) → Type 0
+Decisive tests = ((reason : Reason) × (row : ℕ) × ((later : Outcome) → tests later ≡ Refused reason row)) ⊎ ((later : Outcome) → tests later ≡ later)
+
+refuse-decisive : (reason : Reason) (f : Found) (tests : Outcome → Outcome) → Decisive tests → Decisive (λ later. refuse reason f (tests later))
+refuse-decisive reason (At row) tests d = inl (reason, row, λ later. refl)
+refuse-decisive reason Nothing tests d = d
+
+module _ (h c : List ℕ) (w : ℕ) where
+  tested-decisive : Decisive (testedBefore h c w)
+  unfolding testedBefore testedNumbers
+  tested-decisive =
+      refuse-decisive TooShort (ifHolds (tooShort h) 0) _
+      (refuse-decisive SpareBit (ifHolds (spareBitIsOne h) 0) _
+      (refuse-decisive ByteCount (ifHolds (byteCountsDiffer h c) 0) _
+      (refuse-decisive TooFewRows (ifHolds (tooFewRows h) 0) _
+      (refuse-decisive TooManyRows (ifHolds (tooManyRows (boundsOf h) w) 0) _
+      (refuse-decisive OutOfRange (ifHolds (anyTooLarge (boundsOf h) c) 0) (λ later. later) (inr (λ later. refl)))))))
+
+  pub accepted-or-refused : (testedBefore h c w Accepted ≡ Accepted) ⊎ ((reason : Reason) × (row : ℕ) × (testedBefore h c w Accepted ≡ Refused reason row))
+  accepted-or-refused = by tested-decisive
+    where
+      by : Decisive (testedBefore h c w) → (testedBefore h c w Accepted ≡ Accepted) ⊎ ((reason : Reason) × (row : ℕ) × (testedBefore h c w Accepted ≡ Refused reason row))
+      by (inl d) = inr (d .0, d .1, d .2 Accepted)
+      by (inr d) = inl (d Accepted)
+
+  pub refused-whatever : {reason : Reason} {row : ℕ} → testedBefore h c w Accepted ≡ Refused reason row → (later : Outcome) → testedBefore h c w later ≡ Refused reason row
+  refused-whatever {reason} {row} e later = by tested-decisive
+    where
+      by : Decisive (testedBefore h c w) → testedBefore h c w later ≡ Refused reason row
+      by (inl d) = d .2 later ∙ sym (d .2 Accepted) ∙ e
+      by (inr d) = absurd (refused-not-accepted (sym e ∙ d Accepted))
+
+  pub accepted-later : testedBefore h c w Accepted ≡ Accepted → (later : Outcome) → testedBefore h c w later ≡ later
+  accepted-later e later = by tested-decisive
+    where
+      by : Decisive (testedBefore h c w) → testedBefore h c w later ≡ later
+      by (inl d) = absurd (refused-not-accepted (sym (d .2 Accepted) ∙ e))
+      by (inr d) = d later

@@ -1,0 +1,5 @@
+mod Deciding
+pub mod Facts
+mod Writing
+pub mod Settling
+pub mod Laws

@@ -1,0 +1,156 @@
+// Paper 02, item 1: trial jobs, whose answer is known. A job is written from a header, the coefficients of g and the f's, a start and the
+// number of rows to be spoiled.
+ghost use Prim.Native.Nat.{ℕ, _≤_, _<_};
+ghost use mathlib.Core.Path.{_≡_};
+ghost use mathlib.Core.Bool.{true};
+ghost use mathlib.Core.Logic.{_↔_};
+ghost use lib.ListN.{length};
+ghost use Rattle.format.specs.Bounds.{primeOf, Storable};
+ghost use Rattle.coefficients.specs.Coefficients.{coefficientLengthOf};
+ghost use Rattle.format.specs.Outcomes.{writingReportOf};
+ghost use Rattle.header.specs.Header.{jobLengthOf, Narrow};
+ghost use Rattle.answer.specs.Bytes.{overwritten};
+ghost use Rattle.poly.specs.Coefficients.{Bounded, Stored};
+ghost use Rattle.poly.specs.Vectors.{coefficientsAt};
+ghost use Rattle.problem.specs.Reduced.{Reduced};
+ghost use Rattle.spoiling.specs.Spoiling.{addedBy};
+ghost use Rattle.trial.specs.Refusals.{testedNumbers, testedBefore};
+ghost use Rattle.trial.specs.Trial.{jobBytes, Trial};
+use coefficients::Vector;
+use coefficients::read_vector;
+use format::Bounds;
+use format::Outcome;
+use format::Reason;
+use format::Writing;
+use header::job_length;
+use header::read_header;
+use header::rows_needed;
+use reduced::is_reduced;
+
+fn refused(reason: Reason) -> Outcome
+    ensures { λ r. ⌜ r ≡ Outcome.Refused reason 0 ⌝ }
+{
+    Outcome::Refused {
+        reason: reason,
+        row: 0,
+    }
+}
+
+// Tests 9 and 5.
+fn tested_numbers(coefficients: &[u8], b: Bounds, spoiled: u32) -> Outcome
+    requires { ⌜ Storable b × (length (now coefficients) ≡ coefficientLengthOf b) ⌝ }
+    ensures { λ r. ⌜ r ≡ testedNumbers b (now (coefficients .entry)) spoiled Outcome.Accepted ⌝ }
+{
+    let prime = b.prime;
+    let rows = b.rows;
+    if (field::modulus(prime) as usize) < rows {
+        return refused(Reason::TooManyRows);
+    }
+    if rows < spoiled as usize {
+        return refused(Reason::TooManyRows);
+    }
+    let v = read_vector(coefficients, b);
+    if v.large {
+        return refused(Reason::OutOfRange);
+    }
+    Outcome::Accepted
+}
+
+// The tests before 10, in their order.
+fn tested(header: &[u8], coefficients: &[u8], spoiled: u32) -> Outcome
+    ensures { λ r. ⌜ r ≡ testedBefore (now (header .entry)) (now (coefficients .entry)) spoiled Outcome.Accepted ⌝ }
+{
+    if header.len() < 3 {
+        return refused(Reason::TooShort);
+    }
+    let read = read_header(header);
+    let b = read.bounds;
+    if read.spare == 1 {
+        return refused(Reason::SpareBit);
+    }
+    if header.len() != 3 {
+        return refused(Reason::ByteCount);
+    }
+    if coefficients.len() != b.answer_length() - 4 {
+        return refused(Reason::ByteCount);
+    }
+    if b.rows < rows_needed(b) {
+        return refused(Reason::TooFewRows);
+    }
+    tested_numbers(coefficients, b, spoiled)
+}
+
+// Whether the vector is reduced.
+fn reduced(b: Bounds, v: Vector) -> bool
+    requires { ⌜ (b .outputs ≤ 4) × Stored (primeOf b) (v .g .c) × ((i : ℕ) → i < b .outputs → Stored (primeOf b) (coefficientsAt (v .f) i)) ⌝ }
+    ensures { λ r. ⌜ (r ≡ true) ↔ Reduced (primeOf b) (b .outputs) (coefficientsAt (v .f)) (v .g .c) ⌝ }
+{
+    let prime = b.prime;
+    let n = b.outputs;
+    let g = v.g;
+    let f = v.f;
+    is_reduced(prime, n, g, f)
+}
+
+// The header's three bytes at the area's start.
+fn put_header(area: &mut [u8], header: &[u8])
+    requires { ⌜ (length (now header) ≡ 3) × (3 ≤ length (now area)) ⌝ }
+    ensures { λ _. ⌜ now (area .exit) ≡ overwritten (now (header .entry)) (now (area .entry)) ⌝ }
+{
+    area[0] = header[0];
+    area[1] = header[1];
+    area[2] = header[2];
+}
+
+// Writes the job of a vector and returns how many bytes it wrote.
+fn put_job(area: &mut [u8], header: &[u8], b: Bounds, v: Vector, start: u32, spoiled: u32) -> usize
+    requires { ⌜ (length (now header) ≡ 3) × Narrow b × (0 < b .rows) × (jobLengthOf b ≤ length (now area)) × Bounded (primeOf b) 32 (v .g .c)
+        × ((i : ℕ) → i < b .outputs → Bounded (primeOf b) 32 (coefficientsAt (v .f) i)) ⌝ }
+    ensures { λ r. ⌜ (r ≡ jobLengthOf b)
+        × (now (area .exit) ≡ overwritten (jobBytes b (now (header .entry)) (coefficientsAt (v .f)) (v .g .c) (addedBy (primeOf b) (b .rows) start spoiled)) (now (area .entry))) ⌝ }
+{
+    put_header(area, header);
+    let prime = b.prime;
+    let rows = b.rows;
+    let g = v.g;
+    let f = v.f;
+    let additions = spoiling::spoilings(prime, rows, start, spoiled as usize);
+    let by = additions.by;
+    trial_rows::put_rows(area, b, g, f, &by)
+}
+
+// Any header, coefficients, start and number of rows, any area: the caller owes nothing.
+pub fn trial(
+    header: &[u8],
+    coefficients: &[u8],
+    start: u32,
+    spoiled: u32,
+    area: &mut [u8],
+) -> Writing
+    ensures { λ r. ⌜ Trial (now (header .entry)) (now (coefficients .entry)) start spoiled (now (area .entry)) (writingReportOf r) (now (area .exit)) ⌝ }
+{
+    let verdict = tested(header, coefficients, spoiled);
+    if let Outcome::Refused { reason, row } = verdict {
+        return Writing::Refused {
+            reason: reason,
+            row: row,
+        };
+    }
+    let read = read_header(header);
+    let b = read.bounds;
+    let v = read_vector(coefficients, b);
+    if !reduced(b, v) {
+        return Writing::Refused {
+            reason: Reason::NotReduced,
+            row: 0,
+        };
+    }
+    if area.len() < job_length(b) {
+        return Writing::Refused {
+            reason: Reason::AreaTooShort,
+            row: 0,
+        };
+    }
+    let bytes = put_job(area, header, b, v, start, spoiled) as u32;
+    Writing::Written { bytes: bytes }
+}

@@ -1,0 +1,98 @@
+-- The examples hold.
+use mathlib.Core.Path.{_≡_, refl, ap, ap₂, _∙_}
+use mathlib.Core.List.{_++_}
+use native.Mathlib.Nat.{le-refl}
+use native.Mathlib.Omega.{arith}
+use Rattle.lists.specs.Tabulated.{tabulate}
+use Rattle.field.proofs.Moduli.{modulus-prime}
+use Rattle.field.specs.declared.Prime.the-variants.{P7}
+use Rattle.format.specs.Bounds.{answerLengthOf}
+use Rattle.format.specs.declared.Outcome.the-variants.{Accepted}
+use Rattle.format.specs.Outcomes.{recoveredReport, writtenReport}
+use Rattle.cursor.specs.Bits.{headerOf}
+use Rattle.header.specs.Header.{boundsOf, spareBitOf, jobLengthOf}
+use Rattle.row_search.specs.Search.{firstBelow}
+use Rattle.poly.specs.Operations.{valueOf, lengthOf, lengthBelow}
+use Rattle.word.specs.Word.{wordOf, countBelow}
+use Rattle.answer.specs.Bytes.{fourBytes, coefficientBytes, numeratorStart, overwritten}
+use Rattle.reciprocal.specs.Reciprocals.{leastFrom, reciprocalOf}
+use Rattle.division.specs.Division.{remainderOf, remainderFrom, degreeOf, divisionStep, cancelledOf, cancelledAt, cancelFactor, leadingReciprocal, shifted}
+use Rattle.euclid.specs.Euclid.{gcdFrom, gcdOf}
+use Rattle.reduced.specs.CommonDivisor.{commonDivisorOf}
+use Rattle.reduced.proofs.Decision.{constant-reduced}
+use Rattle.coefficients.specs.Coefficients.{polynomialFrom}
+use Rattle.spoiling.specs.Draws.{drawn}
+use Rattle.spoiling.specs.Spoiling.{untakenFrom, chosenRow, addedBy}
+use Rattle.trial_rows.specs.Rows.{rightValue, valueBefore, trialNumber, trialNumbers}
+use Rattle.trial.specs.Refusals.{testedNumbers, testedBefore, trialOutcome}
+use Rattle.trial.specs.Trial.{trialJob, TrialReduced}
+use Rattle.trial.proofs.Facts.{TrialFacts, trial-facts}
+use Rattle.trial.proofs.Settling.{settle-written, denominator-stored, numerator-stored}
+use Rattle.trial.proofs.Laws.{trial-unique}
+use Rattle.trial_recovery.specs.TrialRecovery.{poleOrSpoiled, polesAndSpoiled}
+use Rattle.trial_examples.specs.Examples.{header, coefficients, job, PageWritten, PageRecovered, EachRefusal}
+
+each-refusal : EachRefusal
+unfolding trialOutcome testedBefore testedNumbers boundsOf headerOf spareBitOf firstBelow
+each-refusal = record {
+  short-header = refl;
+  spare-bit = refl;
+  long-header = refl;
+  coefficient-bytes = refl;
+  few-rows = refl;
+  many-rows = refl;
+  many-spoiled = refl;
+  too-large = refl;
+  not-reduced = refl;
+  short-area = refl;
+}
+
+page-passes : testedBefore header coefficients 2 Accepted ≡ Accepted
+unfolding testedBefore testedNumbers boundsOf headerOf spareBitOf firstBelow
+page-passes = refl
+
+page-facts : TrialFacts header coefficients 2
+page-facts = trial-facts header coefficients 2 page-passes
+
+page-reduced : TrialReduced header coefficients
+unfolding boundsOf headerOf polynomialFrom numeratorStart tabulate lengthOf lengthBelow commonDivisorOf gcdOf gcdFrom remainderOf remainderFrom degreeOf divisionStep cancelledOf cancelledAt cancelFactor leadingReciprocal reciprocalOf leastFrom shifted
+page-reduced =
+    constant-reduced 7 (modulus-prime P7) 2 _ (denominator-stored header coefficients 2 page-facts) (numerator-stored header coefficients 2 page-facts)
+    (λ e. omega arith) refl refl
+
+page-job : trialJob header coefficients 14 2 ≡ job
+unfolding trialJob trialNumbers trialNumber valueBefore rightValue valueOf polynomialFrom numeratorStart addedBy chosenRow untakenFrom drawn coefficientBytes tabulate firstBelow boundsOf headerOf
+page-job = refl
+
+page-length : jobLengthOf (boundsOf header) ≡ 45
+unfolding boundsOf headerOf
+page-length = refl
+
+page-written : PageWritten
+page-written area r after enough T =
+    let here = settle-written header coefficients 14 2 area page-passes page-reduced (rw page-length enough) refl in
+    let same = trial-unique header coefficients 14 2 area T here in
+    (same .0 ∙ ap writtenReport page-length, same .1 ∙ ap (λ t. overwritten t area) page-job)
+
+-- row 6 is a pole and spoiled, and row 0 is spoiled
+page-count : polesAndSpoiled header coefficients 14 2 ≡ 2
+unfolding countBelow valueOf polynomialFrom addedBy chosenRow untakenFrom drawn tabulate firstBelow boundsOf headerOf
+page-count = refl
+
+page-word : wordOf (boundsOf header .rows) (poleOrSpoiled header coefficients 14 2) ≡ 2181038080
+unfolding wordOf valueOf polynomialFrom addedBy chosenRow untakenFrom drawn tabulate firstBelow boundsOf headerOf
+page-word = refl
+
+page-answer-length : answerLengthOf (boundsOf header) ≡ 12
+unfolding boundsOf headerOf
+page-answer-length = refl
+
+page-errors : boundsOf header .errors ≡ 2
+unfolding boundsOf headerOf
+page-errors = refl
+
+page-recovered : PageRecovered
+page-recovered jobArea r jobAfter area r' after room enough T =
+    let first = page-written jobArea r jobAfter room (T .first) in
+    let back = T .recovered (ap (λ t. t .refusal) (first .0)) (rw page-answer-length enough) (rw (page-count, page-errors) (le-refl 2)) in
+    (back .report ∙ ap₂ recoveredReport page-answer-length page-count, back .written ∙ ap (λ word. overwritten (fourBytes word ++ coefficients) area) page-word)

@@ -1,0 +1,103 @@
+-- A trial job read back: its header, its points and its values.
+use Prim.Native.Nat.{ℕ, zero, suc, _+_, _*_, _/_, _%_, _≤_, _<_}
+use mathlib.Core.Path.{_≡_, refl, ap, ap₂, _∙_}
+use mathlib.Core.List.{List}
+use mathlib.Core.Logic.{_⊎_, inl, inr}
+use native.Mathlib.Nat.{mul-le-mul-right, suc-mul, mod-lt}
+use native.Mathlib.Omega.{arith}
+use lib.Arith.{digits-div, digits-mod}
+use lib.ListN.{length, getD, length-append, List·getD-append}
+use Rattle.lists.proofs.Order.{lt-or-ge}
+use Rattle.lists.proofs.Tabulated.{at-tabulate, at-tabulate-past}
+use Rattle.field.proofs.Moduli.{modulus-prime, modulus-positive, modulus-small}
+use Rattle.format.specs.Bounds.{primeOf}
+use Rattle.cursor.specs.Bits.{headerOf}
+use Rattle.header.specs.Header.{boundsOf, spareBitOf, jobLengthOf}
+use Rattle.rows.specs.Rows.{numberAt}
+use Rattle.answer.specs.Bytes.{coefficientBytes}
+use Rattle.answer.proofs.Lengths.{length-coefficients}
+use Rattle.answer.proofs.Reading.{SixteenBits, number-behind, coefficient-of-bytes}
+use Rattle.coefficients.specs.Coefficients.{denominatorOf, numeratorOf}
+use Rattle.spoiling.specs.Spoiling.{addedBy}
+use Rattle.trial_rows.specs.Rows.{trialNumber, trialNumbers}
+use Rattle.trial_rows.proofs.Values.{value-before-below}
+use Rattle.trial_rows.proofs.Numbers.{row-below}
+use Rattle.trial.specs.Trial.{trialJob}
+use Rattle.trial.proofs.Facts.{TrialFacts}
+
+module _ (h c : List ℕ) (start w : ℕ) (facts : TrialFacts h c w) where
+  abbrev p : ℕ
+  p = primeOf (boundsOf h)
+
+  abbrev L : ℕ
+  L = boundsOf h .rows
+
+  abbrev n : ℕ
+  n = boundsOf h .outputs
+
+  abbrev pub numberOf : ℕ → ℕ → ℕ
+  numberOf = trialNumber p (numeratorOf (boundsOf h) c) (denominatorOf (boundsOf h) c) (addedBy p L start w)
+
+  abbrev numbers : List ℕ
+  numbers = trialNumbers p (numeratorOf (boundsOf h) c) (denominatorOf (boundsOf h) c) (addedBy p L start w) L n
+
+  abbrev job : List ℕ
+  job = trialJob h c start w
+
+  pub job-length : length job ≡ jobLengthOf (boundsOf h)
+  unfolding trialJob
+  job-length = omega (arith, length-append h (coefficientBytes numbers (L * (1 + n))), length-coefficients numbers (L * (1 + n)), facts .header-bytes)
+
+  -- the header's bytes
+  header-byte : (k : ℕ) → k < 3 → getD job k 0 ≡ getD h k 0
+  unfolding trialJob
+  header-byte k l = List·getD-append h _ 0 k (omega (arith, facts .header-bytes))
+
+  header-same : headerOf job ≡ headerOf h
+  unfolding headerOf
+  header-same = ap₂ _+_ (ap₂ _+_ (ap (λ x. x * 65536) (header-byte 0 (omega arith))) (ap (λ x. x * 256) (header-byte 1 (omega arith)))) (header-byte 2 (omega arith))
+
+  pub bounds-same : boundsOf job ≡ boundsOf h
+  unfolding boundsOf
+  bounds-same = rw header-same refl
+
+  pub spare-same : spareBitOf job ≡ spareBitOf h
+  unfolding spareBitOf
+  spare-same = rw header-same refl
+
+  -- the numbers are residues
+  pub number-below : (r column : ℕ) → r < L → numberOf r column < p
+  unfolding trialNumber
+  number-below r zero l = omega (arith, facts .distinct-points)
+  number-below r (suc zero) l = mod-lt _ (modulus-positive (boundsOf h .prime))
+  number-below r (suc (suc i)) l = value-before-below (modulus-prime (boundsOf h .prime)) (numeratorOf (boundsOf h) c) (denominatorOf (boundsOf h) c) r (suc i)
+
+  sixteen-bits : SixteenBits numbers
+  unfolding trialNumbers
+  sixteen-bits k = by (lt-or-ge k (L * (1 + n)))
+    where
+      by : (k < L * (1 + n)) ⊎ (L * (1 + n) ≤ k) → getD numbers k 0 < 65536
+      by (inl l) =
+          let low = number-below (k / (1 + n)) (k % (1 + n)) (row-below L (1 + n) k (omega arith) l) in
+          let small = modulus-small (boundsOf h .prime) in
+          rw (at-tabulate (L * (1 + n)) (λ j. numberOf (j / (1 + n)) (j % (1 + n))) k l) (omega arith)
+      by (inr l) = rw (at-tabulate-past (L * (1 + n)) (λ j. numberOf (j / (1 + n)) (j % (1 + n))) k l) (omega arith)
+
+  -- the number in row r and a column
+  pub number-read : (r column : ℕ) → r < L → column ≤ n → numberAt job r column ≡ numberOf r column
+  unfolding numberAt trialJob trialNumbers
+  number-read r column l m =
+      let outputs = ap (λ b. b .outputs) bounds-same in
+      let k = r * (1 + n) + column in
+      let ends : suc r * (1 + n) ≤ L * (1 + n) = mul-le-mul-right (1 + n) l in
+      let inside : k < L * (1 + n) = omega (arith, suc-mul r (1 + n)) in
+      let three = facts .header-bytes in
+      rw outputs
+      (number-behind h (coefficientBytes numbers (L * (1 + n))) (3 + 2 * k) (2 * k) (omega arith)
+      ∙ coefficient-of-bytes numbers sixteen-bits (L * (1 + n)) k inside
+      ∙ at-tabulate (L * (1 + n)) (λ j. numberOf (j / (1 + n)) (j % (1 + n))) k inside
+      ∙ ap₂ numberOf (digits-div r (omega arith)) (digits-mod r (omega arith)))
+
+  pub point-read : (r : ℕ) → r < L → numberAt job r 0 ≡ r
+  unfolding trialNumber
+  point-read r l = number-read r 0 l (omega arith)

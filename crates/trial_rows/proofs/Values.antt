@@ -1,0 +1,109 @@
+-- The value that makes an output right: it is the quotient, below p, and the only one.
+use Prim.Native.Nat.{ℕ, zero, suc, _*_, _%_, _<_}
+use mathlib.Core.Path.{_≡_, refl, sym, ap, _∙_}
+use mathlib.Core.Bool.{Bool, true, false}
+use mathlib.Core.List.{List}
+use native.Mathlib.Nat.{mod-lt, mod-eq-of-lt}
+use native.Mathlib.Omega.{arith}
+use borrow.Author.Tests.{eq-eqb, eqb-true}
+use lib.Dec.{eqb}
+use Rattle.lists.proofs.Truth.{clash, never-true}
+use Rattle.field.proofs.Primality.{IsPrime}
+use Rattle.field.proofs.Remainders.{mod-mul, mul-mod}
+use Rattle.reciprocal.specs.Reciprocals.{reciprocalOf}
+use Rattle.reciprocal.proofs.Reciprocals.{reciprocal-inverts}
+use Rattle.poly.specs.Operations.{valueOf}
+use Rattle.poly.proofs.Values.{value-below}
+use Rattle.row_search.specs.declared.Found.the-variants.{At}
+use Rattle.row_search.specs.Search.{firstBelow}
+use Rattle.row_search.proofs.FirstBelow.{none-below, search-found}
+use Rattle.spoiling.specs.Spoiling.{numberIn}
+use Rattle.trial_rows.specs.Rows.{poleAt, rightValue, valueBefore}
+
+-- a search among the numbers below n finds the only one that passes
+found-only : (test : ℕ → Bool) (n y : ℕ) → y < n → test y ≡ true → ((z : ℕ) → z < n → test z ≡ true → z ≡ y) → firstBelow n test ≡ At y
+found-only test n y l pass only =
+    sym (search-found test (record { within = omega arith; none = none-below test y (λ z m. never-true _ (λ t. below z m (only z (omega arith) t))) }) l pass)
+  where
+    below : (z : ℕ) → z < y → z ≡ y → ⊥
+    below z m e = omega arith
+
+module _ {p : ℕ} (P : IsPrime p) (v d : ℕ) (small : v < p) (low : d < p) (positive : 0 < d) where
+  inverts : reciprocalOf p d * d % p ≡ 1
+  inverts = reciprocal-inverts p P d (let e = mod-eq-of-lt low in omega arith)
+
+  -- x times the reciprocal of d times d is x
+  restores : (x : ℕ) → x < p → x * (reciprocalOf p d * d) % p ≡ x
+  restores x l =
+      let one : x * 1 ≡ x = omega arith in
+      sym (mul-mod x (reciprocalOf p d * d) p) ∙ ap (λ t. x * t % p) inverts ∙ ap (λ t. t % p) one ∙ mod-eq-of-lt l
+
+  right : d * (v * reciprocalOf p d % p) % p ≡ v
+  right =
+      let r = reciprocalOf p d in
+      let order : d * (v * r) ≡ v * (r * d) = omega arith in
+      mul-mod d (v * r) p ∙ ap (λ t. t % p) order ∙ restores v small
+
+  only : (z : ℕ) → z < p → v ≡ d * z % p → z ≡ v * reciprocalOf p d % p
+  only z l e =
+      let r = reciprocalOf p d in
+      let order : d * z * r ≡ z * (r * d) = omega arith in
+      sym (ap (λ t. t * r % p) e ∙ mod-mul (d * z) r p ∙ ap (λ t. t % p) order ∙ restores z l)
+
+  pub quotient-only : (y z : ℕ) → y < p → z < p → v ≡ d * y % p → v ≡ d * z % p → y ≡ z
+  quotient-only y z l m ey ez = only y l ey ∙ sym (only z m ez)
+
+  -- the number below p whose product with d leaves v is v times the reciprocal
+  pub quotient-found : firstBelow p (λ y. eqb v (d * y % p)) ≡ At (v * reciprocalOf p d % p)
+  quotient-found =
+      found-only _ p (v * reciprocalOf p d % p) (mod-lt _ (omega arith)) (eq-eqb _ _ (sym right)) (λ z l t. only z l (eqb-true _ _ t))
+
+  pub quotient-right : v ≡ d * numberIn (firstBelow p (λ y. eqb v (d * y % p))) % p
+  quotient-right = rw quotient-found (sym right)
+
+  pub quotient-below : numberIn (firstBelow p (λ y. eqb v (d * y % p))) < p
+  quotient-below = rw quotient-found (mod-lt _ (omega arith))
+
+-- the values of f and of g at the point of row r, g being 0 at a pole
+module _ {p : ℕ} (P : IsPrime p) (f : ℕ → List ℕ) (g : List ℕ) (r i : ℕ) where
+  positive-prime : 0 < p
+  positive-prime = let t = P .two in omega arith
+
+  -- at a pole all values are 0
+  pub pole-value : poleAt p g r ≡ true → valueBefore p f g r i ≡ 0
+  unfolding valueBefore
+  pole-value e = rw e
+
+  module _ (regular : poleAt p g r ≡ false) where
+    denominator-positive : 0 < valueOf p r g
+    denominator-positive = by (valueOf p r g) regular
+      where
+        by : (d : ℕ) → eqb d 0 ≡ false → 0 < d
+        by zero e = clash e
+        by (suc d) e = omega arith
+
+    -- any other row is right
+    pub regular-right : valueOf p r (f i) ≡ valueOf p r g * valueBefore p f g r i % p
+    unfolding valueBefore rightValue
+    regular-right =
+        rw regular
+        (quotient-right P (valueOf p r (f i)) (valueOf p r g) (value-below p r (f i) positive-prime) (value-below p r g positive-prime) denominator-positive)
+
+    regular-below : valueBefore p f g r i < p
+    unfolding valueBefore rightValue
+    regular-below =
+        rw regular
+        (quotient-below P (valueOf p r (f i)) (valueOf p r g) (value-below p r (f i) positive-prime) (value-below p r g positive-prime) denominator-positive)
+
+    -- and no other value would be
+    pub regular-only : (y : ℕ) → y < p → valueOf p r (f i) ≡ valueOf p r g * y % p → y ≡ valueBefore p f g r i
+    regular-only y l e =
+        quotient-only P (valueOf p r (f i)) (valueOf p r g) (value-below p r (f i) positive-prime) (value-below p r g positive-prime) denominator-positive
+        y (valueBefore p f g r i) l regular-below e regular-right
+
+  pub value-before-below : valueBefore p f g r i < p
+  value-before-below = by (poleAt p g r) refl
+    where
+      by : (b : Bool) → poleAt p g r ≡ b → valueBefore p f g r i < p
+      by true e = rw (pole-value e) positive-prime
+      by false e = regular-below e

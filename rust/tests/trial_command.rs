@@ -1,0 +1,240 @@
+//! `hanthuvelo trial`: what it prints where, its exit status, and bad words and inputs.
+
+mod support;
+
+use hanthuvelo::{hex, readable};
+use outside_checks::jobs::trial::generate;
+use outside_checks::second::trial_job;
+use std::fs;
+use support::{file, folder, run, run_on, run_redirected, ROOT};
+
+const EXAMPLE: &str = "examples/pole.trial";
+/// The job of docs/TRIAL.md.
+const JOB: &str = "\
+prime 7 outputs 2 df 0 dg 1 errors 2
+0: 2 1
+1: 6 4
+2: 4 5
+3: 3 2
+4: 1 3
+5: 2 6
+6: 2 0
+";
+const HEX: &str =
+    "138024000000020001000100060004000200040005000300030002000400010003000500020006000600020000\n";
+
+fn example() -> Vec<u8> {
+    fs::read(format!("{ROOT}/{EXAMPLE}")).expect("an example")
+}
+
+#[test]
+fn a_trial_is_a_readable_job() {
+    let read = run(&["trial", EXAMPLE]);
+    assert_eq!(
+        (read.text.as_str(), read.said.as_str(), read.status),
+        (JOB, "", 0)
+    );
+    let piped = run_on(&["trial", "-"], &example());
+    assert_eq!((piped.text.as_str(), piped.status), (JOB, 0));
+    let recovered = run_on(&["recover", "-"], &read.out);
+    let expected = "\
+standard input: recovered modulo 7
+  f1 = 5 / (1 + u)
+  f2 = 1 / (1 + u)
+  wrong rows: 0 (u = 0), 6 (u = 6)
+";
+    assert_eq!((recovered.text.as_str(), recovered.status), (expected, 0));
+}
+
+#[test]
+fn a_trial_is_bytes_where_asked() {
+    let text = run(&["trial", "--bytes", "--hex", EXAMPLE]);
+    assert_eq!((text.text.as_str(), text.status), (HEX, 0));
+    let bytes = run(&["trial", EXAMPLE, "--bytes", EXAMPLE]);
+    let job = hex::bytes(HEX).expect("bytes");
+    assert_eq!((bytes.out, bytes.status), (job.repeat(2), 0));
+    assert_eq!(run_on(&["pack", "-"], JOB.as_bytes()).out, job);
+    let both = run(&["trial", EXAMPLE, EXAMPLE]);
+    assert_eq!(both.text, format!("# {EXAMPLE}\n{JOB}").repeat(2));
+}
+
+/// Without spoiled rows there are the values of the fractions; with one, row 6 is another.
+#[test]
+fn options_stand_for_what_the_file_says() {
+    let none = run(&["trial", "--spoiled", "0", EXAMPLE]).text;
+    let right = JOB.replace("0: 2 1", "0: 5 1").replace("6: 2 0", "6: 0 0");
+    assert_eq!(none, right);
+    let one = run(&["trial", "--spoiled", "1", EXAMPLE]).text;
+    assert_eq!(one, right.replace("6: 0 0", "6: 2 0"));
+    let other = run(&["trial", "--start", "4294967295", EXAMPLE]).text;
+    let text = String::from_utf8(example()).expect("text");
+    let changed = text.replace("start 14", "start 4294967295");
+    assert_eq!(run_on(&["trial", "-"], changed.as_bytes()).text, other);
+    assert_ne!(other, JOB);
+}
+
+#[test]
+fn a_refusal_goes_to_standard_error() {
+    let words = "refused 9: 8 rows are to be spoiled, the job has 7 rows\n";
+    for form in [&[][..], &["--bytes"], &["--bytes", "--hex"]] {
+        let run = run(&[&["trial", EXAMPLE, "--spoiled", "8"], form].concat());
+        assert_eq!((run.text.as_str(), run.status), ("", 1));
+        assert_eq!(run.said, format!("{EXAMPLE}: {words}"));
+    }
+    let text = String::from_utf8(example()).expect("text");
+    let folder = folder("refused-trial");
+    let bad = text.replace("g = 1 + u", "g = 1 + 3 u");
+    let bad = file(&folder, "bad.trial", bad.as_bytes());
+    let both = run(&["trial", &bad, EXAMPLE]);
+    let words = "refused 10: the leading coefficient of g is 3, not 1\n";
+    assert_eq!(both.said, format!("{bad}: {words}"));
+    assert_eq!((both.text, both.status), (format!("# {EXAMPLE}\n{JOB}"), 1));
+}
+
+/// Words behind `hanthuvelo trial`, and what is said of them.
+const BAD_WORDS: [(&str, &str); 7] = [
+    ("", "expected a file"),
+    ("--binary x", "unknown option `--binary`"),
+    ("--hex x", "expected --bytes beside --hex"),
+    ("x --start", "expected a value behind --start"),
+    (
+        "--start -1 x",
+        "expected a number from 0 to 4294967295 behind --start, found `-1`",
+    ),
+    (
+        "--spoiled two x",
+        "expected a number from 0 to 4294967295 behind --spoiled, found `two`",
+    ),
+    ("- -", "expected - once at most"),
+];
+
+#[test]
+fn bad_words_are_named() {
+    for (words, message) in BAD_WORDS {
+        let words: Vec<&str> = words.split_whitespace().collect();
+        let run = run(&[&["trial"], &words[..]].concat());
+        let expected = format!("hanthuvelo trial: {message}; see `hanthuvelo trial --help`\n");
+        assert_eq!(
+            (run.said, run.text, run.status),
+            (expected, String::new(), 2)
+        );
+    }
+}
+
+#[test]
+fn files_that_cannot_be_read_are_named() {
+    let folder = folder("unreadable-trial");
+    let text = String::from_utf8(example()).expect("text");
+    let bad = text.replace("f2 = 1", "f2 = 1 + u");
+    let bad = file(&folder, "bad.trial", bad.as_bytes());
+    let job = file(&folder, "job", &hex::bytes(HEX).expect("bytes"));
+    for (name, message) in [
+        (
+            "none.trial",
+            ": expected a trial: No such file or directory (os error 2)",
+        ),
+        ("examples", ": expected a trial: found a directory"),
+        (
+            "/dev/zero",
+            ": expected a trial, found more than 1048576 bytes",
+        ),
+        (
+            &bad,
+            ", line 7: expected f2 of degree 0 at most, found degree 1",
+        ),
+        (&job, ", line 1: expected text in UTF-8"),
+        (
+            "examples/h01.job",
+            ", line 3: expected `rows L start S spoiled W`, found `0: 5`",
+        ),
+    ] {
+        let run = run(&["trial", EXAMPLE, name]);
+        assert_eq!(run.said, format!("{name}{message}\n"));
+        assert_eq!((run.text.as_str(), run.status), ("", 2), "{name}");
+    }
+    let empty = run_on(&["trial", "-"], &[]);
+    let message = "standard input, line 1: expected `prime P outputs N df D dg D errors E`\n";
+    assert_eq!((empty.said.as_str(), empty.status), (message, 2));
+    let full = run_redirected("trial examples/pole.trial", "> /dev/full");
+    let message = "standard output: No space left on device (os error 28)\n";
+    assert_eq!((full.said.as_str(), full.status), (message, 2));
+}
+
+/// The command on generated trials as text, against the second writer.
+#[test]
+fn generated_trials_are_written_or_refused() {
+    let (mut written, mut refused) = (0, 0);
+    for index in 0..400 {
+        let call = generate(33, index);
+        let Some(text) = trial_text(&call.header, &call.coefficients) else {
+            continue;
+        };
+        let (start, spoiled) = (call.start.to_string(), call.spoiled.to_string());
+        let words = [
+            "trial",
+            "--bytes",
+            "--start",
+            &start,
+            "--spoiled",
+            &spoiled,
+            "-",
+        ];
+        let run = run_on(&words, text.as_bytes());
+        match trial_job(
+            &call.header,
+            &call.coefficients,
+            call.start,
+            call.spoiled,
+            313,
+        ) {
+            Ok(job) => {
+                assert_eq!((run.out, run.status), (job.bytes, 0), "{}", call.describe());
+                written += 1;
+            }
+            Err(number) => {
+                let start = format!("standard input: refused {number}: ");
+                assert!(run.said.starts_with(&start), "{}", run.said);
+                assert_eq!((run.text.as_str(), run.status), ("", 1));
+                refused += 1;
+            }
+        }
+    }
+    assert!(written > 250 && refused > 50, "{written}, {refused}");
+}
+
+/// The readable trial of these bytes, every term written out; none where they do not fit each other.
+fn trial_text(header: &[u8], coefficients: &[u8]) -> Option<String> {
+    let &[first, second, third] = header else {
+        return None;
+    };
+    let bits = u32::from_be_bytes([0, first, second, third]);
+    let field = |above: u32, width: u32| bits >> above & ((1 << width) - 1);
+    let prime = [7, 97, 257, 65521][field(22, 2) as usize];
+    let (outputs, rows, df, dg) = (field(20, 2) + 1, field(15, 5), field(10, 5), field(5, 5));
+    let widths = std::iter::once(dg + 1).chain((0..outputs).map(|_| df + 1));
+    if coefficients.len() as u32 != 2 * widths.clone().sum::<u32>() || third % 2 == 1 {
+        return None;
+    }
+    let mut text = format!(
+        "prime {prime} outputs {outputs} df {df} dg {dg} errors {}\nrows {rows} start 0 spoiled 0\n",
+        field(1, 4)
+    );
+    let mut rest = coefficients.chunks(2);
+    for (place, width) in widths.enumerate() {
+        let term = |power| {
+            let pair = rest.next().expect("a coefficient");
+            format!(
+                "{} u^{power}",
+                u32::from(pair[0]) * 256 + u32::from(pair[1])
+            )
+        };
+        let terms: Vec<String> = (0..width).map(term).collect();
+        let name = match place {
+            0 => "g".to_string(),
+            output => format!("f{output}"),
+        };
+        text += &format!("{name} = {}\n", terms.join(" + "));
+    }
+    assert!(readable::is_readable(text.as_bytes()));
+    Some(text)
+}

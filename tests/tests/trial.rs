@@ -1,0 +1,190 @@
+//! Every writer of trial jobs on the same generated calls: what is returned and every byte of the
+//! area; and each job recovered and compared with what went in.
+//!
+//! `SEED` and `CALLS` in the environment take another run.
+
+use hanthuvelo::{hex, Report, Written};
+use outside_checks::definition::{for_each_list, is_reduced};
+use outside_checks::jobs::trial::{generate, Tally, TrialCall};
+use outside_checks::layout::{is_right, row_bit, trimmed, value_at, Answer, Job, Row};
+use outside_checks::second::{trial_job, TrialJob};
+use outside_checks::{implementations, setting, show, writers};
+
+const SEED: u64 = 1_013_904_223;
+const CALLS: u64 = 50_000;
+
+/// What every writer returned, which must be the same, with the area, which must be the same too.
+fn agreed(call: &TrialCall) -> (Written, Vec<u8>) {
+    let mut agreed: Option<(&str, Written, Vec<u8>)> = None;
+    for writer in writers() {
+        let mut area = call.area.clone();
+        let written = (writer.trial)(
+            &call.header,
+            &call.coefficients,
+            call.start,
+            call.spoiled,
+            &mut area,
+        );
+        let outcome = format!("{}: {written:?}\n{}", writer.name, hex::text(&area));
+        let describe = || format!("{outcome}\n{}", call.describe());
+        let expected = call.expected.unwrap_or(written.refusal);
+        assert_eq!(written.refusal, expected, "{}", describe());
+        assert!(
+            written.is_written() || written == Written::refused(expected),
+            "{}",
+            describe()
+        );
+        let kept = written.written as usize;
+        assert!(area[kept..] == call.area[kept..], "behind\n{}", describe());
+        match &agreed {
+            None => agreed = Some((writer.name, written, area)),
+            Some((name, first, other)) => assert!(
+                written == *first && area == *other,
+                "{name}: {first:?}\n{}\n{}",
+                hex::text(other),
+                describe()
+            ),
+        }
+    }
+    let (_, written, area) = agreed.expect("there is a writer");
+    (written, area)
+}
+
+/// Recovers a trial job. Its wrong rows are the poles and the spoiled ones; if they are E at most,
+/// the recovery gives back what went in, and else something else or nothing.
+fn recover(call: &TrialCall, area: &[u8], job: &TrialJob) {
+    let recover = implementations()[0].recover;
+    let wrong = job.wrong_rows();
+    let word: u32 = wrong.iter().copied().map(row_bit).sum();
+    let answer = [&word.to_be_bytes()[..], &call.coefficients].concat();
+    let mut expected = answer.clone();
+    expected.extend([0x5A; 5]);
+    let mut found = vec![0x5A; expected.len()];
+    let report = recover(&area[..job.bytes.len()], &mut found);
+    if wrong.len() <= call.fields().error_bound {
+        let known = Report::recovered(answer.len() as u32, wrong.len() as u32);
+        assert_eq!(report, known, "{}", call.describe());
+        assert_eq!(found, expected, "{}", call.describe());
+    } else {
+        let other = report == Report::refused(8, 0) || found[4..answer.len()] != answer[4..];
+        assert!(other, "{report:?}\n{}", call.describe());
+    }
+}
+
+#[test]
+fn all_writers_agree_on_generated_calls() {
+    let seed = setting("SEED", SEED);
+    let mut tally = Tally::default();
+    for index in 0..setting("CALLS", CALLS) {
+        let call = generate(seed, index);
+        let (written, area) = agreed(&call);
+        let (header, coefficients) = (&call.header, &call.coefficients);
+        let length = call.area.len();
+        let job = trial_job(header, coefficients, call.start, call.spoiled, length).ok();
+        if let Some(job) = &job {
+            recover(&call, &area, job);
+        }
+        tally.count(&call, written, job.as_ref());
+    }
+    let names: Vec<&str> = writers().iter().map(|each| each.name).collect();
+    let (summary, enough) = tally.summary();
+    show(&format!(
+        "\nseed {seed}, trial jobs by: {}\n{summary}",
+        names.join(", ")
+    ));
+    assert!(enough, "too few calls of a kind");
+}
+
+#[test]
+fn the_generator_repeats_itself() {
+    for index in 0..200 {
+        let (first, again) = (generate(SEED, index), generate(SEED, index));
+        assert_eq!(first.describe(), again.describe());
+        assert_ne!(first.describe(), generate(SEED + 1, index).describe());
+    }
+}
+
+/// A trial modulo 7 with E = 0 and no row more than needed.
+fn small_job(outputs: usize, df: usize, dg: usize) -> Job {
+    let row = |point| Row {
+        point,
+        values: vec![0; outputs],
+    };
+    Job {
+        prime_code: 0,
+        outputs,
+        numerator_bound: df,
+        denominator_bound: dg,
+        error_bound: 0,
+        rows: (0..=(df + dg) as u32).map(row).collect(),
+    }
+}
+
+/// Paper 01's "reduced", by trying every divisor.
+fn is_reduced_by_definition(denominator: &[u32], numerators: &[Vec<u32>]) -> bool {
+    let denominator = trimmed(denominator);
+    denominator.last() == Some(&1) && is_reduced(&denominator, numerators, 7)
+}
+
+/// Every writer on a trial of which no row is spoiled: refused with 10 exactly if it is not reduced,
+/// else zeros at the poles and right rows everywhere else.
+fn compare_small(job: &Job, denominator: &[u32], numerators: &[Vec<u32>]) -> bool {
+    let listed = Answer {
+        word: 0,
+        denominator: denominator.to_vec(),
+        numerators: numerators.to_vec(),
+    };
+    let coefficients = &listed.pack(job)[4..];
+    let header = &job.pack()[..3];
+    let is_reduced = is_reduced_by_definition(denominator, numerators);
+    for writer in writers() {
+        let mut area = vec![0xA5; job.pack().len()];
+        let written = (writer.trial)(header, coefficients, 0, 0, &mut area);
+        let describe = || format!("{}: {written:?} {listed:?}", writer.name);
+        if !is_reduced {
+            assert_eq!(written, Written::refused(10), "{}", describe());
+            continue;
+        }
+        assert_eq!(written, Written::bytes(area.len() as u32), "{}", describe());
+        let rows = area[3..].chunks(2 * (1 + job.outputs)).enumerate();
+        for (place, bytes) in rows {
+            let number = |pair: &[u8]| u32::from(pair[0]) * 256 + u32::from(pair[1]);
+            let numbers: Vec<u32> = bytes.chunks(2).map(number).collect();
+            let row = Row {
+                point: numbers[0],
+                values: numbers[1..].to_vec(),
+            };
+            let polynomials = numerators.iter().map(Vec::as_slice);
+            let fits = match value_at(denominator, row.point, 7) {
+                0 => row.values.iter().all(|&value| value == 0),
+                _ => is_right(denominator, polynomials, &row, 7),
+            };
+            assert!(fits && row.point == place as u32, "{}", describe());
+            assert!(row.values.iter().all(|&value| value < 7), "{}", describe());
+        }
+    }
+    is_reduced
+}
+
+#[test]
+fn all_polynomials_of_the_smallest_trials() {
+    let (mut reduced, mut other) = (0, 0);
+    // Outputs, df, dg.
+    for (outputs, df, dg) in [(1, 0, 0), (1, 1, 1), (1, 2, 2), (2, 1, 1), (3, 0, 1)] {
+        let job = small_job(outputs, df, dg);
+        let count = dg + 1 + outputs * (df + 1);
+        for_each_list(count, 7, &mut |coefficients| {
+            let (denominator, numerators) = coefficients.split_at(dg + 1);
+            let numerators: Vec<Vec<u32>> =
+                numerators.chunks(df + 1).map(<[u32]>::to_vec).collect();
+            match compare_small(&job, denominator, &numerators) {
+                true => reduced += 1,
+                false => other += 1,
+            }
+        });
+    }
+    show(&format!(
+        "all polynomials of the smallest trials: {reduced} reduced, {other} not\n"
+    ));
+    assert!(reduced > 30_000 && other > 200_000);
+}
