@@ -84,3 +84,17 @@ pub fn show(text: &str) {
         .write_all(text.as_bytes())
         .expect("standard error takes text");
 }
+
+/// Shows what a run has counted, and fails where it has too few of a kind.
+pub fn conclude(title: &str, (summary, enough): (String, bool)) {
+    show(&format!("\n{title}\n{summary}"));
+    assert!(enough, "too few of a kind");
+}
+
+/// Fails where what is generated does not follow from seed and number, or not from the seed.
+pub fn expect_repeatable(seed: u64, describe: impl Fn(u64, u64) -> String) {
+    for index in 0..200 {
+        assert_eq!(describe(seed, index), describe(seed, index));
+        assert_ne!(describe(seed, index), describe(seed + 1, index));
+    }
+}

@@ -5,7 +5,7 @@
 use hanthuvelo::hex;
 use hanthuvelo::Report;
 use outside_checks::jobs::{generate, GeneratedJob, Tally};
-use outside_checks::{implementations, setting, show};
+use outside_checks::{conclude, expect_repeatable, implementations, setting};
 
 const SEED: u64 = 20_140_601;
 const JOBS: u64 = 100_000;
@@ -49,19 +49,11 @@ fn all_implementations_agree_on_generated_jobs() {
         tally.count(&job, report);
     }
     let names: Vec<&str> = implementations().iter().map(|each| each.name).collect();
-    let (summary, enough) = tally.summary();
-    show(&format!(
-        "\nseed {seed}, compared: {}\n{summary}",
-        names.join(", ")
-    ));
-    assert!(enough, "too few jobs of a kind");
+    let title = format!("seed {seed}, compared: {}", names.join(", "));
+    conclude(&title, tally.summary());
 }
 
 #[test]
 fn the_generator_repeats_itself() {
-    for index in 0..200 {
-        let (first, again) = (generate(SEED, index), generate(SEED, index));
-        assert_eq!(first.describe(), again.describe());
-        assert_ne!(first.describe(), generate(SEED + 1, index).describe());
-    }
+    expect_repeatable(SEED, |seed, index| generate(seed, index).describe());
 }

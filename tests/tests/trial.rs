@@ -8,7 +8,7 @@ use outside_checks::definition::{for_each_list, is_reduced};
 use outside_checks::jobs::trial::{generate, Tally, TrialCall};
 use outside_checks::layout::{is_right, row_bit, trimmed, value_at, Answer, Job, Row};
 use outside_checks::second::{trial_job, TrialJob};
-use outside_checks::{implementations, setting, show, writers};
+use outside_checks::{conclude, expect_repeatable, implementations, setting, show, writers};
 
 const SEED: u64 = 1_013_904_223;
 const CALLS: u64 = 50_000;
@@ -87,21 +87,13 @@ fn all_writers_agree_on_generated_calls() {
         tally.count(&call, written, job.as_ref());
     }
     let names: Vec<&str> = writers().iter().map(|each| each.name).collect();
-    let (summary, enough) = tally.summary();
-    show(&format!(
-        "\nseed {seed}, trial jobs by: {}\n{summary}",
-        names.join(", ")
-    ));
-    assert!(enough, "too few calls of a kind");
+    let title = format!("seed {seed}, trial jobs by: {}", names.join(", "));
+    conclude(&title, tally.summary());
 }
 
 #[test]
 fn the_generator_repeats_itself() {
-    for index in 0..200 {
-        let (first, again) = (generate(SEED, index), generate(SEED, index));
-        assert_eq!(first.describe(), again.describe());
-        assert_ne!(first.describe(), generate(SEED + 1, index).describe());
-    }
+    expect_repeatable(SEED, |seed, index| generate(seed, index).describe());
 }
 
 /// A trial modulo 7 with E = 0 and no row more than needed.

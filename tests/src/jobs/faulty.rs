@@ -88,8 +88,7 @@ fn wrong_length(random: &mut Random) -> GeneratedJob {
 }
 
 /// Rows are taken away, or df is raised, until one row or more is missing.
-fn too_few_rows(random: &mut Random) -> GeneratedJob {
-    let mut job = sound_job(random);
+pub fn take_rows(random: &mut Random, job: &mut Job) {
     let needed = job.needed_rows();
     match random.below(3) {
         0 => job.rows.truncate(needed - 1),
@@ -99,6 +98,11 @@ fn too_few_rows(random: &mut Random) -> GeneratedJob {
             job.numerator_bound = random.between(least, 31);
         }
     }
+}
+
+fn too_few_rows(random: &mut Random) -> GeneratedJob {
+    let mut job = sound_job(random);
+    take_rows(random, &mut job);
     let two_faults = random.once_in(2) && !job.rows.is_empty();
     if two_faults {
         let row = random.below(job.rows.len());

@@ -1,6 +1,7 @@
 //! Calls with faults: made to be refused for a given cause, damaged, or random.
 
 use super::{Draft, Spoiled, TrialCall};
+use crate::jobs::faulty::take_rows;
 use crate::jobs::planted::Shape;
 use crate::jobs::random::Random;
 use crate::second::polynomial::Polynomial;
@@ -103,7 +104,7 @@ impl Draft {
     /// Puts a fault into the fields and polynomials; those of the bytes come later.
     fn spoil_by(&mut self, random: &mut Random, fault: Fault) {
         match fault {
-            Fault::TooFewRows => self.take_rows(random),
+            Fault::TooFewRows => take_rows(random, &mut self.job),
             Fault::RowsAbovePrime => {
                 let row = self.job.rows[0].clone();
                 self.job.rows.resize(random.between(8, 31), row);
@@ -128,20 +129,6 @@ impl Draft {
                 }
             }
             _ => {}
-        }
-    }
-
-    /// One row or more is missing then, or df is raised for that.
-    fn take_rows(&mut self, random: &mut Random) {
-        let job = &mut self.job;
-        let needed = job.needed_rows();
-        match random.below(3) {
-            0 => job.rows.truncate(needed - 1),
-            1 => job.rows.truncate(random.below(needed)),
-            _ => {
-                let least = job.rows.len() - job.denominator_bound - 2 * job.error_bound;
-                job.numerator_bound = random.between(least, 31);
-            }
         }
     }
 }
