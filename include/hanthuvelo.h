@@ -3,7 +3,7 @@
  *
  * Given rows (x; y1 .. yn) modulo a prime p, the library finds the reduced fractions f1/g .. fn/g within the
  * degree bounds that are wrong at no more than E rows, and says which rows those are; or it says that there
- * are none. It also writes trial jobs, whose result is known, from such fractions.
+ * are none. It also writes trial jobs, whose result is known, from such fractions, and gives reciprocals modulo p.
  *
  * After `bash install PREFIX`, pkg-config knows the flags as `hanthuvelo`. Without it link
  * target/staticlib/libcapi.a, which `rt staticlib capi` writes. The archive is for x86-64 Linux and needs nothing
@@ -132,6 +132,24 @@ struct hanthuvelo_written {
 struct hanthuvelo_written hanthuvelo_trial(const uint8_t *header, size_t header_length, const uint8_t *coefficients,
                                            size_t coefficients_length, uint32_t start, uint32_t spoiled,
                                            uint8_t *area, size_t area_length);
+
+/* What a call for a reciprocal returns. */
+struct hanthuvelo_reciprocal {
+    uint32_t exists; /* 1 if there is a reciprocal, else 0 */
+    uint32_t value;  /* the reciprocal, from 1 to p - 1; 0 where none exists, and then no reciprocal */
+};
+
+/*
+ * The reciprocal of `number` modulo the prime p that has this code in a job's header: the only r below p with
+ * r number = 1 modulo p.
+ *
+ * Zero has no reciprocal: none exists where `number` is 0 modulo p, as 0, p and 2 p are. None exists either where
+ * `prime_code` is above 3, as such a code has no prime.
+ *
+ * Any two numbers are taken, and nothing is asked of the caller. As a recovery, the call allocates no memory and keeps
+ * nothing between calls. The structure has the function's name and stands behind the word `struct`, in C++ too.
+ */
+struct hanthuvelo_reciprocal hanthuvelo_reciprocal(uint32_t prime_code, uint32_t number);
 
 #ifdef __cplusplus
 }

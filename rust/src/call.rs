@@ -1,10 +1,17 @@
-//! The boundary to the proved library: its functions on byte slices.
+//! The boundary to the proved library: its functions on byte slices and numbers.
 
-use crate::{Answer, Job, Refusal, Trial, LONGEST_ANSWER, LONGEST_JOB};
+use crate::{Answer, Job, Prime, Refusal, Trial, LONGEST_ANSWER, LONGEST_JOB};
 
 #[allow(unsafe_code)]
 mod linked {
     use crate::{Report, Written};
+
+    /// What a call for a reciprocal returns; `value` is the reciprocal where `exists` is 1.
+    #[repr(C)]
+    struct Reciprocal {
+        exists: u32,
+        value: u32,
+    }
 
     extern "C" {
         fn hanthuvelo_recover(
@@ -24,6 +31,8 @@ mod linked {
             area: *mut u8,
             area_length: usize,
         ) -> Written;
+
+        fn hanthuvelo_reciprocal(prime_code: u32, number: u32) -> Reciprocal;
     }
 
     /// Recovers the job in `job` and writes its answer to the start of `area`.
@@ -62,9 +71,36 @@ mod linked {
             )
         }
     }
+
+    /// The reciprocal of a number modulo the prime of this code, 0 to 3 as in [`Prime::ALL`](crate::Prime::ALL).
+    ///
+    /// Any two numbers are taken. There is no reciprocal where the number is 0 modulo the prime, nor where the code is above
+    /// 3, which no prime has.
+    pub fn reciprocal(prime_code: u32, number: u32) -> Option<u32> {
+        // SAFETY: the function takes two numbers and asks nothing of its caller.
+        let found = unsafe { hanthuvelo_reciprocal(prime_code, number) };
+        (found.exists == 1).then_some(found.value)
+    }
 }
 
-pub use linked::{recover, trial};
+pub use linked::{reciprocal, recover, trial};
+
+impl Prime {
+    /// The reciprocal of a number modulo this prime p: the only r below p whose product with the number is 1 modulo p.
+    ///
+    /// Any number is taken. Those that are 0 modulo p, as 0, p and 2 p, have no reciprocal.
+    ///
+    /// ```
+    /// use hanthuvelo::Prime;
+    ///
+    /// // The curve 1 / (3 + x) modulo 7 at the points 0 to 6. At 4, where 3 + x is 7, it has a pole and no value.
+    /// let curve: Vec<Option<u32>> = (0..7).map(|x| Prime::P7.reciprocal(3 + x)).collect();
+    /// assert_eq!(curve, [Some(5), Some(2), Some(3), Some(6), None, Some(1), Some(4)]);
+    /// ```
+    pub fn reciprocal(self, number: u32) -> Option<u32> {
+        reciprocal(self as u32, number)
+    }
+}
 
 impl Job {
     /// The answer of this job, or why there is none.

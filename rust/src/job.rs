@@ -36,6 +36,17 @@ impl Prime {
     }
 }
 
+impl TryFrom<u32> for Prime {
+    type Error = FormatError;
+
+    fn try_from(value: u32) -> Result<Prime, FormatError> {
+        Prime::from_value(value).ok_or_else(|| {
+            let known = Prime::ALL.map(|prime| prime.value().to_string()).join(", ");
+            FormatError(format!("expected a prime of {known}, found {value}"))
+        })
+    }
+}
+
 /// What a number or a row of a job should be, and is not.
 #[derive(Clone, Debug, PartialEq, Eq)]
 pub struct FormatError(pub(crate) String);

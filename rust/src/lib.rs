@@ -30,7 +30,11 @@
 //!
 //! A [`Trial`] is the way back: a job whose result is known, written from fractions, with rows spoiled on purpose.
 //!
-//! [`recover`] and [`trial`](fn@trial) are the calls themselves, on any bytes and any area, as the C header declares them.
+//! [`Prime::reciprocal`] is the reciprocal of a number modulo a prime, and `None` for zero, which has none: so a curve 1/g
+//! has no value at a pole.
+//!
+//! [`recover`], [`trial`](fn@trial) and [`reciprocal`] are the calls themselves, on any bytes, areas and numbers, as the C
+//! header declares them.
 
 #![deny(unsafe_code)]
 #![warn(missing_docs)]
@@ -46,7 +50,7 @@ mod trial;
 
 pub use answer::{polynomial_text, trimmed, Answer};
 #[cfg(feature = "library")]
-pub use call::{recover, trial};
+pub use call::{reciprocal, recover, trial};
 pub use job::{Bounds, FormatError, Header, Job, Prime, Row};
 pub use refusal::Refusal;
 pub use trial::Trial;

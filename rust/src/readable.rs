@@ -148,13 +148,7 @@ fn labelled<'a>(content: &'a str, form: &str) -> Result<Vec<&'a str>, FormatErro
 
 fn parse_header(content: &str) -> Result<Bounds, FormatError> {
     let words = labelled(content, HEADER)?;
-    let prime = number(words[0], "prime")?;
-    let Some(prime) = Prime::from_value(prime.into()) else {
-        let known = Prime::ALL.map(|prime| prime.value().to_string()).join(", ");
-        return Err(FormatError(format!(
-            "expected a prime of {known}, found {prime}"
-        )));
-    };
+    let prime = Prime::try_from(u32::from(number(words[0], "prime")?))?;
     let field = |place: usize, name: &str| number(words[place], name).map(usize::from);
     let bounds = Bounds {
         prime,

@@ -5,7 +5,10 @@ mod support;
 use hanthuvelo::hex;
 use outside_checks::jobs::{generate, Random};
 use std::fs;
-use support::{command, feed, file, folder, run, run_on, run_redirected, stream_jobs, Run, ROOT};
+use support::{
+    assert_done, assert_fails, command, feed, file, folder, run, run_on, run_redirected,
+    stream_jobs, Run, ROOT,
+};
 
 const H1: &str = "01800200000005000100050002 0002";
 const POLES: &str = "\
@@ -19,21 +22,9 @@ fn h1() -> Vec<u8> {
     hex::bytes(H1).expect("bytes")
 }
 
-/// A run that ends well, says nothing on standard error and prints this.
-fn assert_prints(run: &Run, expected: &str) {
-    assert_eq!(run.text, expected);
-    assert_eq!((run.said.as_str(), run.status), ("", 0));
-}
-
-/// A run that fails before it prints anything, with this one line.
-fn assert_fails(run: &Run, expected: &str) {
-    assert_eq!(run.said, format!("{expected}\n"));
-    assert_eq!((run.text.as_str(), run.status), ("", 2));
-}
-
 #[test]
 fn recover_prints_fractions_and_wrong_rows() {
-    assert_prints(&run(&["recover", "examples/poles.job"]), POLES);
+    assert_done(&run(&["recover", "examples/poles.job"]), POLES);
     let h8 = "\
 standard input: recovered modulo 7
   f1 = 1 / (1 + u)
@@ -41,9 +32,9 @@ standard input: recovered modulo 7
   wrong rows: none
 ";
     let readable = fs::read(format!("{ROOT}/examples/h08.job")).expect("an example");
-    assert_prints(&run_on(&["recover", "-"], &readable), h8);
+    assert_done(&run_on(&["recover", "-"], &readable), h8);
     let packed = run(&["pack", "examples/h08.job"]).out;
-    assert_prints(&run_on(&["recover", "-"], &packed), h8);
+    assert_done(&run_on(&["recover", "-"], &packed), h8);
 }
 
 #[test]
@@ -52,9 +43,9 @@ fn recover_gives_bytes_and_objects() {
     assert_eq!(bytes.out, [0x20, 0, 0, 0, 0, 1, 0, 5]);
     assert_eq!(bytes.status, 0);
     let text = run(&["recover", "--bytes", "--hex", "examples/h01.job"]);
-    assert_prints(&text, "2000000000010005\n");
+    assert_done(&text, "2000000000010005\n");
     let object = run(&["recover", "--json", "examples/h03.job"]);
-    assert_prints(
+    assert_done(
         &object,
         "{\"file\":\"examples/h03.job\",\"status\":\"recovered\",\"prime\":7,\"g\":[0,1],\"f\":[[1]],\
          \"wrong\":[{\"row\":0,\"point\":0}]}\n",
@@ -170,21 +161,21 @@ fn jobs_are_packed_shown_and_unpacked() {
     let packed = run(&["pack", "examples/h01.job"]);
     assert_eq!((packed.out, packed.status), (h1(), 0));
     let text = run(&["pack", "--hex", "examples/h01.job", "examples/h10.job"]);
-    assert_prints(&text, "018002000000050001000500020002\nC080000000FFF0\n");
+    assert_done(&text, "018002000000050001000500020002\nC080000000FFF0\n");
     let shown = "prime 7 outputs 1 df 0 dg 0 errors 1\n0: 5\n1: 5\n2: 2\n";
-    assert_prints(&run_on(&["show", "-"], &h1()), shown);
-    assert_prints(&run(&["show", "examples/h01.job"]), shown);
+    assert_done(&run_on(&["show", "-"], &h1()), shown);
+    assert_done(&run(&["show", "examples/h01.job"]), shown);
     let two = run(&["show", "examples/h10.job", "examples/h10.job"]);
     let h10 = "# examples/h10.job\nprime 65521 outputs 1 df 0 dg 0 errors 0\n0: 65520\n";
-    assert_prints(&two, &h10.repeat(2));
+    assert_done(&two, &h10.repeat(2));
     let h8 = "wrong rows: none\ng = 1 + u\nf1 = 1\nf2 = u\n";
     let bytes = run(&["recover", "--bytes", "examples/h08.job"]).out;
-    assert_prints(&run_on(&["unpack", "examples/h08.job"], &bytes), h8);
-    assert_prints(&run_on(&["unpack", "examples/h08.job", "-"], &bytes), h8);
+    assert_done(&run_on(&["unpack", "examples/h08.job"], &bytes), h8);
+    assert_done(&run_on(&["unpack", "examples/h08.job", "-"], &bytes), h8);
     let folder = folder("unpack");
     let answer = file(&folder, "answer", (hex::text(&bytes) + "\n").as_bytes());
     let job = run(&["pack", "examples/h08.job"]).out;
-    assert_prints(&run_on(&["unpack", "--hex", "-", &answer], &job), h8);
+    assert_done(&run_on(&["unpack", "--hex", "-", &answer], &job), h8);
 }
 
 /// Pack and show undo each other on any job that can be written.
@@ -205,7 +196,7 @@ fn shown_jobs_pack_into_their_bytes() {
 fn help_and_version_are_printed() {
     let general = run(&["--help"]);
     assert_eq!(general.status, 0);
-    for verb in ["recover", "pack", "show", "unpack", "trial"] {
+    for verb in ["recover", "pack", "show", "unpack", "trial", "reciprocal"] {
         assert!(
             general.text.contains(&format!("\n  {verb} ")),
             "{}",
@@ -217,127 +208,15 @@ fn help_and_version_are_printed() {
             "{}",
             help.text
         );
-        assert_prints(&run(&[verb, "none.job", "-h"]), &help.text);
+        assert_done(&run(&[verb, "none.job", "-h"]), &help.text);
     }
-    assert_prints(&run(&["help"]), &general.text);
-    assert_prints(
+    assert_done(&run(&["help"]), &general.text);
+    assert_done(
         &run(&["--version"]),
         concat!("hanthuvelo ", env!("CARGO_PKG_VERSION"), "\n"),
     );
     assert_eq!(run(&[]).said, general.text);
     assert_eq!(run(&[]).status, 2);
-}
-
-/// Words behind `hanthuvelo`, the verb first, and what is said of them.
-const BAD_WORDS: [(&str, &str); 15] = [
-    ("recover", "expected a file"),
-    ("recover --jsn x", "unknown option `--jsn`"),
-    (
-        "recover --json --bytes x",
-        "--json and --bytes exclude each other",
-    ),
-    ("recover --hex x", "expected --bytes beside --hex"),
-    (
-        "recover --stream --readable x",
-        "--stream and --readable exclude each other",
-    ),
-    (
-        "recover --readable --binary x",
-        "--readable and --binary exclude each other",
-    ),
-    ("recover --threads", "expected a value behind --threads"),
-    (
-        "recover --threads 0 x",
-        "expected a number from 1 to 1024 behind --threads, found `0`",
-    ),
-    ("recover - -", "expected - once at most"),
-    ("pack", "expected a file"),
-    ("pack --json x", "unknown option `--json`"),
-    ("show", "expected a file"),
-    ("unpack", "expected a job and an answer"),
-    ("unpack -", "expected a job and an answer"),
-    ("unpack x y z", "expected a job and an answer"),
-];
-
-#[test]
-fn bad_words_are_named() {
-    let verbs = "expected a verb of recover, pack, show, unpack, trial";
-    let unknown = format!("hanthuvelo: {verbs}, found `recovr`");
-    assert_fails(&run(&["recovr", "x"]), &unknown);
-    for (words, message) in BAD_WORDS {
-        let words: Vec<&str> = words.split(' ').collect();
-        let verb = words[0];
-        let expected = format!("hanthuvelo {verb}: {message}; see `hanthuvelo {verb} --help`");
-        assert_fails(&run(&words), &expected);
-    }
-    let dashed = run(&["recover", "--", "--json"]);
-    assert_fails(&dashed, &format!("--json{MISSING}"));
-}
-
-const MISSING: &str = ": expected a job: No such file or directory (os error 2)";
-const TOO_LONG: &str = ": expected a job, found more than 1048576 bytes";
-
-#[test]
-fn files_that_cannot_be_read_are_named() {
-    let folder = folder("unreadable");
-    let bad = b"prime 7 outputs 1 df 0 dg 0 errors 1\n0 5\n";
-    let bad = file(&folder, "bad.job", bad);
-    let large = file(&folder, "large.job", &vec![b'#'; (1 << 20) + 1]);
-    let latin = file(&folder, "latin.job", b"# caf\xE9\nprime 7");
-    let script = "set -euo pipefail";
-    let script = file(
-        &folder,
-        "script",
-        format!("# a script\n{script}\n").as_bytes(),
-    );
-    for (name, message) in [
-        ("none.job", MISSING),
-        ("", MISSING),
-        (&bad, ", line 2: expected `point: values`, found `0 5`"),
-        (&large, TOO_LONG),
-        (&latin, ", line 1: expected text in UTF-8"),
-        ("/dev/zero", TOO_LONG),
-        (
-            "/proc/self/mem",
-            ": expected a job: Input/output error (os error 5)",
-        ),
-        (
-            &script,
-            ", line 2: expected `prime P outputs N df D dg D errors E`, found `set -euo pipefail`",
-        ),
-    ] {
-        for verb in ["recover", "pack", "show"] {
-            assert_fails(&run(&[verb, name]), &format!("{name}{message}"));
-        }
-    }
-    for verb in ["pack", "show", "unpack"] {
-        let directory = run(&[verb, "examples"]);
-        assert_fails(&directory, "examples: expected a job: found a directory");
-    }
-}
-
-#[test]
-fn answers_that_cannot_be_read_are_named() {
-    for (words, input, message) in [
-        (
-            "--hex",
-            &b"2000\n000g"[..],
-            ", line 2: expected hexadecimal digits, found 'g'",
-        ),
-        (
-            "--hex",
-            b"2000000",
-            ", line 1: expected two hexadecimal digits for each byte, found one",
-        ),
-        (
-            "--readable",
-            b"\x20\0\0\0",
-            ": expected 8 bytes for this job's answer, found 4",
-        ),
-    ] {
-        let run = run_on(&["unpack", words, "examples/h01.job"], input);
-        assert_fails(&run, &format!("standard input{message}"));
-    }
 }
 
 #[test]

@@ -6,7 +6,7 @@ use hanthuvelo::{hex, readable};
 use outside_checks::jobs::trial::generate;
 use outside_checks::second::trial_job;
 use std::fs;
-use support::{file, folder, run, run_on, run_redirected, ROOT};
+use support::{assert_bad_use, assert_fails, file, folder, run, run_on, run_redirected, ROOT};
 
 const EXAMPLE: &str = "examples/pole.trial";
 /// The job of docs/TRIAL.md.
@@ -111,13 +111,7 @@ const BAD_WORDS: [(&str, &str); 7] = [
 #[test]
 fn bad_words_are_named() {
     for (words, message) in BAD_WORDS {
-        let words: Vec<&str> = words.split_whitespace().collect();
-        let run = run(&[&["trial"], &words[..]].concat());
-        let expected = format!("hanthuvelo trial: {message}; see `hanthuvelo trial --help`\n");
-        assert_eq!(
-            (run.said, run.text, run.status),
-            (expected, String::new(), 2)
-        );
+        assert_bad_use("trial", words, message);
     }
 }
 
@@ -148,9 +142,7 @@ fn files_that_cannot_be_read_are_named() {
             ", line 3: expected `rows L start S spoiled W`, found `0: 5`",
         ),
     ] {
-        let run = run(&["trial", EXAMPLE, name]);
-        assert_eq!(run.said, format!("{name}{message}\n"));
-        assert_eq!((run.text.as_str(), run.status), ("", 2), "{name}");
+        assert_fails(&run(&["trial", EXAMPLE, name]), &format!("{name}{message}"));
     }
     let empty = run_on(&["trial", "-"], &[]);
     let message = "standard input, line 1: expected `prime P outputs N df D dg D errors E`\n";

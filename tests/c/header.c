@@ -114,7 +114,53 @@ static int check_trial(void)
     return 0;
 }
 
+static const uint32_t PRIMES[] = {7, 97, 257, 65521};
+
+static int none(struct hanthuvelo_reciprocal r)
+{
+    return r.exists == 0 && r.value == 0;
+}
+
+/* Whether a call returns the reciprocal of this number, or none where it is 0 modulo the prime. */
+static int is_reciprocal(uint32_t prime_code, uint32_t number)
+{
+    struct hanthuvelo_reciprocal r = hanthuvelo_reciprocal(prime_code, number);
+    uint32_t prime = PRIMES[prime_code];
+    if (number % prime == 0) {
+        return none(r);
+    }
+    return r.exists == 1 && r.value < prime && (uint64_t)r.value * number % prime == 1;
+}
+
+static int check_reciprocal(void)
+{
+    EXPECT(sizeof(struct hanthuvelo_reciprocal) == 8);
+    EXPECT(offsetof(struct hanthuvelo_reciprocal, exists) == 0);
+    EXPECT(offsetof(struct hanthuvelo_reciprocal, value) == 4);
+
+    static const uint32_t HALVES[] = {4, 49, 129, 32761};
+    for (uint32_t code = 0; code < 4; code++) {
+        struct hanthuvelo_reciprocal half = hanthuvelo_reciprocal(code, 2);
+        EXPECT(half.exists == 1 && half.value == HALVES[code]);
+        EXPECT(none(hanthuvelo_reciprocal(code, 0)));
+        EXPECT(none(hanthuvelo_reciprocal(code, PRIMES[code])));
+        for (uint32_t residue = 0; residue < PRIMES[code]; residue++) {
+            EXPECT(is_reciprocal(code, residue));
+            EXPECT(is_reciprocal(code, residue + PRIMES[code]));
+            EXPECT(is_reciprocal(code, UINT32_MAX - residue));
+        }
+    }
+    for (uint32_t number = 0; number < 10; number++) {
+        for (uint32_t code = 4; code < 300; code++) {
+            EXPECT(none(hanthuvelo_reciprocal(code, number)));
+        }
+        EXPECT(none(hanthuvelo_reciprocal((uint32_t)1 << 31, number)));
+        EXPECT(none(hanthuvelo_reciprocal(UINT32_MAX, number)));
+    }
+    return 0;
+}
+
 int main(void)
 {
-    return check_recover() || check_trial();
+    return check_recover() || check_trial() || check_reciprocal();
 }

@@ -6,6 +6,7 @@ mod fraction;
 pub mod measured;
 mod planted;
 mod random;
+pub mod reciprocal;
 mod tally;
 pub mod trial;
 

@@ -68,6 +68,28 @@ pub fn writers() -> Vec<Writer> {
     ]
 }
 
+/// One way to find the reciprocal of a number modulo the prime of a code.
+#[derive(Clone, Copy)]
+pub struct Reciprocal {
+    pub name: &'static str,
+    pub find: fn(u32, u32) -> Option<u32>,
+}
+
+/// Every way to find reciprocals to be compared; the library's only where its feature is on.
+pub fn reciprocals() -> Vec<Reciprocal> {
+    vec![
+        #[cfg(feature = "library")]
+        Reciprocal {
+            name: "library",
+            find: hanthuvelo::reciprocal,
+        },
+        Reciprocal {
+            name: "second",
+            find: second::reciprocal,
+        },
+    ]
+}
+
 /// A number of the environment by which a run is changed, or the usual one.
 pub fn setting<T: FromStr>(name: &str, usual: T) -> T {
     match std::env::var(name) {

@@ -1,25 +1,37 @@
-//! The C header: a C program that includes it and calls the library.
+//! The C header: a C program that includes it and calls the library, compiled as C and as C++.
 #![cfg(feature = "library")]
 
 use std::path::Path;
 use std::process::Command;
 
-#[test]
-fn a_c_program_calls_the_library() {
+/// Compiles the program with these words before its name, and runs it.
+fn compile_and_run(compiler: &str, words: &[&str], name: &str) {
     let root = Path::new(env!("CARGO_MANIFEST_DIR")).join("..");
-    let program = Path::new(env!("CARGO_TARGET_TMPDIR")).join("header");
-    let compiled = Command::new("cc")
-        .args(["-std=c99", "-Wall", "-Wextra", "-Werror", "-I"])
+    let program = Path::new(env!("CARGO_TARGET_TMPDIR")).join(name);
+    let compiled = Command::new(compiler)
+        .args(["-Wall", "-Wextra", "-Werror", "-I"])
         .arg(root.join("include"))
+        .args(words)
         .arg(root.join("tests/c/header.c"))
+        .args(["-x", "none"])
         .arg(root.join("target/staticlib/libcapi.a"))
         .arg("-o")
         .arg(&program)
         .output()
-        .expect("the C compiler that Rust links by");
+        .unwrap_or_else(|error| panic!("{compiler}: {error}"));
     let said = String::from_utf8_lossy(&compiled.stderr);
     assert!(compiled.status.success(), "{said}");
     let output = Command::new(&program).output().expect("the program starts");
     let said = String::from_utf8_lossy(&output.stdout);
     assert!(output.status.success(), "{said}");
+}
+
+#[test]
+fn a_c_program_calls_the_library() {
+    compile_and_run("cc", &["-std=c99"], "header");
+}
+
+#[test]
+fn it_is_a_program_of_c_plus_plus_too() {
+    compile_and_run("c++", &["-std=c++11", "-x", "c++"], "header-c++");
 }

@@ -1,6 +1,7 @@
 //! The page of statements: as the files have it, and complete.
 
 use outside_checks::statements::page::Page;
+use outside_checks::statements::walk::Walk;
 use outside_checks::statements::{antt, beyond_need, complaints, repository, source, PAGE, ROOTS};
 use std::fs;
 
@@ -49,6 +50,55 @@ fn every_contract_stands_on_the_page() {
             .find(|each| each.0.starts_with(&file) && each.1 == function);
         let (_, _, text) = contract.unwrap_or_else(|| panic!("{function} is not on the page"));
         assert!(text.contains("ensures"), "{text}");
+    }
+}
+
+/// The crates that compute an answer: how is no part of what is promised.
+const METHOD: [&str; 16] = [
+    "reciprocal",
+    "division",
+    "euclid",
+    "fraction",
+    "poly_product",
+    "poly_scaled",
+    "montgomery",
+    "lanes",
+    "evaluation",
+    "pairs",
+    "pair_step",
+    "interpolation",
+    "candidate",
+    "vector",
+    "solver",
+    "reduced",
+];
+
+/// The definitions of the method that these contracts rest on.
+fn method_below(contracts: &[(&str, &str)]) -> Vec<String> {
+    let walk = Walk::from_contracts(&repository(), contracts);
+    assert!(walk.definitions.len() > contracts.len());
+    let of_method = |file: &str| {
+        METHOD
+            .iter()
+            .any(|name| file.starts_with(&format!("crates/{name}/")))
+    };
+    let places = walk.definitions.into_keys();
+    places
+        .filter(|(file, _)| of_method(file))
+        .map(|(file, name)| format!("{file}: `{name}`"))
+        .collect()
+}
+
+/// Among the contracts only those for reciprocals speak of them, so that no demand can change with what a reciprocal is.
+#[test]
+fn the_demands_do_not_rest_on_the_method() {
+    let speaks = |root: &(&str, &str)| root.1.contains("reciprocal");
+    let (reciprocals, others): (Vec<_>, Vec<_>) = ROOTS.into_iter().partition(speaks);
+    assert_eq!(others.len(), 6);
+    assert_eq!(method_below(&others), Vec::<String>::new());
+    for root in reciprocals {
+        let place = "crates/reciprocal/specs/Reciprocals.antt: `reciprocalOf`".to_string();
+        assert!(method_below(&[root]).contains(&place), "{}", root.1);
     }
 }
 

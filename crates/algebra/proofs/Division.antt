@@ -43,8 +43,12 @@ module _ (F : Field) where
       quotient-below = below-cons R c (d .quotient) n (d .quotient-below);
     }
       where
+        -- the reciprocal of the leading coefficient
+        i : Carrier
+        i = inv (g m) (dg .top)
+
         c : Carrier
-        c = cons R (f zero) (d .remainder) m ⊗ inv (g m)
+        c = cons R (f zero) (d .remainder) m ⊗ i
 
         r : Series R
         r = addS R (cons R (f zero) (d .remainder)) (negS R (scaleS R c g))
@@ -53,7 +57,7 @@ module _ (F : Field) where
         below = below-add R _ _ _ (below-cons R (f zero) (d .remainder) m (d .remainder-below)) (below-neg R _ _ (below-scale R c g _ (dg .low)))
 
         top : r m ≡ null
-        top = simp clauses (top-cancels _ (inv (g m)) (g m) (inv-mul (g m) (dg .top)))
+        top = simp clauses (top-cancels _ i (g m) (inv-mul (g m) (dg .top)))
 
         at : (k : ℕ) → f k ≡ addS R (mulS R (cons R c (d .quotient)) g) r k
         at zero = simp (clauses, ring)

@@ -9,19 +9,22 @@ use Rattle.algebra.proofs.Bounds.{Below, below-tail, below-zero}
 pub record Field : Type 1 where
   pub ring : Ring
   pub dec : Discrete (ring .Carrier)
-  pub inv : ring .Carrier → ring .Carrier
-  pub inv-mul : (a : ring .Carrier) → a ≢ ring .null → ring .mul a (inv a) ≡ ring .one
+  -- null has no reciprocal
+  pub inv : (a : ring .Carrier) → a ≢ ring .null → ring .Carrier
+  pub inv-mul : (a : ring .Carrier) (n : a ≢ ring .null) → ring .mul a (inv a n) ≡ ring .one
   pub one≢null : ring .one ≢ ring .null
 
 module _ (F : Field) where
   open Field F using (ring as R, dec, inv, inv-mul)
-  open Ring R using (Carrier, add as _⊕_, mul as _⊗_, null)
+  open Ring R using (Carrier, add as _⊕_, mul as _⊗_, null, one)
 
   infixl 60 _⊕_
   infixl 70 _⊗_
   pub cancel : (a b : Carrier) → a ≢ null → a ⊗ b ≡ null → b ≡ null
   cancel a b n e =
-      sym (one-mul R b) ∙ ap (λ x. x ⊗ b) (sym (inv-mul a n) ∙ mul-comm R _ _) ∙ mul-assoc R _ _ _ ∙ ap (λ x. inv a ⊗ x) e ∙ mul-null R _
+      let i = inv a n in
+      let unit : i ⊗ a ≡ one = mul-comm R _ _ ∙ inv-mul a n in
+      sym (one-mul R b) ∙ ap (λ x. x ⊗ b) (sym unit) ∙ mul-assoc R _ _ _ ∙ ap (λ x. i ⊗ x) e ∙ mul-null R _
 
   pub nonzero-mul : (a b : Carrier) → a ≢ null → b ≢ null → a ⊗ b ≢ null
   nonzero-mul a b na nb e = nb (cancel a b na e)

@@ -14,7 +14,7 @@ use Rattle.algebra.proofs.Degree.{HasDegree, top-mul, regular}
 use Rattle.algebra.proofs.Euclid.{CommonDivisor}
 
 module _ (F : Field) where
-  open Field F using (ring as R, inv, inv-mul, one≢null)
+  open Field F using (ring as R, one≢null)
   open Ring R using (Carrier, mul as _⊗_, null, one)
 
   infixl 70 _⊗_
@@ -102,43 +102,41 @@ module _ (F : Field) where
         divisor-nonnull : C .divisor ≢ nullS R
         divisor-nonnull e = nz (C .right-multiple ∙ ap (λ x. mulS R x (C .g')) e ∙ null-mulS R (C .g'))
 
-    module _ (m : ℕ) (dg : HasDegree F (C .g') m) (k : Carrier) (ek : k ≡ C .g' m) where
-      k-inv : k ⊗ inv k ≡ one
-      k-inv = inv-mul k (λ z. dg .top (sym ek ∙ z))
+    -- k is the leading coefficient of g', and i its reciprocal
+    module _ (m : ℕ) (dg : HasDegree F (C .g') m) (k : Carrier) (ek : k ≡ C .g' m) (i : Carrier) (unit : k ⊗ i ≡ one) where
+      constants : mulS R (constS R k) (constS R i) ≡ constS R one
+      constants = constS-mul R k _ ∙ scale-constS k i ∙ ap (constS R) unit
 
-      constants : mulS R (constS R k) (constS R (inv k)) ≡ constS R one
-      constants = constS-mul R k _ ∙ scale-constS k (inv k) ∙ ap (constS R) k-inv
-
-      scaled : (d f h : Series R) → h ≡ mulS R d f → h ≡ mulS R (scaleS R k d) (scaleS R (inv k) f)
+      scaled : (d f h : Series R) → h ≡ mulS R d f → h ≡ mulS R (scaleS R k d) (scaleS R i f)
       scaled d f h e =
-          e ∙ multiple-scaled (seriesRing R) (constS R k) (constS R (inv k)) d f constants
-          ∙ ap₂ (mulS R) (constS-mul R k d) (constS-mul R (inv k) f)
+          e ∙ multiple-scaled (seriesRing R) (constS R k) (constS R i) d f constants
+          ∙ ap₂ (mulS R) (constS-mul R k d) (constS-mul R i f)
 
-      pub scaled-bezout : addS R (mulS R (scaleS R k (C .u)) (scaleS R (inv k) (C .f'))) (mulS R (scaleS R k (C .v)) (scaleS R (inv k) (C .g'))) ≡ constS R one
+      pub scaled-bezout : addS R (mulS R (scaleS R k (C .u)) (scaleS R i (C .f'))) (mulS R (scaleS R k (C .v)) (scaleS R i (C .g'))) ≡ constS R one
       scaled-bezout =
           ap₂ (addS R)
-          (ap₂ (mulS R) (sym (constS-mul R k (C .u))) (sym (constS-mul R (inv k) (C .f'))))
-          (ap₂ (mulS R) (sym (constS-mul R k (C .v))) (sym (constS-mul R (inv k) (C .g'))))
-          ∙ bezout-scaled (seriesRing R) (constS R k) (constS R (inv k)) (C .u) (C .v) (C .f') (C .g') constants coprime
+          (ap₂ (mulS R) (sym (constS-mul R k (C .u))) (sym (constS-mul R i (C .f'))))
+          (ap₂ (mulS R) (sym (constS-mul R k (C .v))) (sym (constS-mul R i (C .g'))))
+          ∙ bezout-scaled (seriesRing R) (constS R k) (constS R i) (C .u) (C .v) (C .f') (C .g') constants coprime
 
-      pub scaled-monic : Monic (scaleS R (inv k) (C .g')) m
+      pub scaled-monic : Monic (scaleS R i (C .g')) m
       scaled-monic = record {
-        top = scaleS-at R (inv k) (C .g') m ∙ ap (λ x. inv k ⊗ x) (sym ek) ∙ mul-comm R _ _ ∙ k-inv;
-        low = below-scale R (inv k) (C .g') (suc m) (dg .low);
+        top = scaleS-at R i (C .g') m ∙ ap (λ x. i ⊗ x) (sym ek) ∙ mul-comm R _ _ ∙ unit;
+        low = below-scale R i (C .g') (suc m) (dg .low);
       }
 
-      pub scaled-numerator : phi ≡ mulS R (scaleS R k (C .divisor)) (scaleS R (inv k) (C .f'))
+      pub scaled-numerator : phi ≡ mulS R (scaleS R k (C .divisor)) (scaleS R i (C .f'))
       scaled-numerator = scaled (C .divisor) (C .f') phi (C .left-multiple)
 
-      pub scaled-denominator : psi ≡ mulS R (scaleS R k (C .divisor)) (scaleS R (inv k) (C .g'))
+      pub scaled-denominator : psi ≡ mulS R (scaleS R k (C .divisor)) (scaleS R i (C .g'))
       scaled-denominator = scaled (C .divisor) (C .g') psi (C .right-multiple)
 
-      -- from any common divisor, by the leading coefficient k of g'
+      -- from any common divisor
       abbrev pub lowest-terms-of : LowestTerms phi psi
       lowest-terms-of = record {
         common = scaleS R k (C .divisor);
-        numerator = scaleS R (inv k) (C .f');
-        denominator = scaleS R (inv k) (C .g');
+        numerator = scaleS R i (C .f');
+        denominator = scaleS R i (C .g');
         r = scaleS R k (C .u);
         s = scaleS R k (C .v);
         degree = m;
@@ -147,7 +145,7 @@ module _ (F : Field) where
         numerator-equation = scaled-numerator;
         denominator-equation = scaled-denominator;
         common-polynomial = polynomial-scale R k _ (C .divisor-polynomial);
-        numerator-polynomial = polynomial-scale R (inv k) _ (C .f'-polynomial);
+        numerator-polynomial = polynomial-scale R i _ (C .f'-polynomial);
         r-polynomial = polynomial-scale R k _ (C .u-polynomial);
         s-polynomial = polynomial-scale R k _ (C .v-polynomial);
       }

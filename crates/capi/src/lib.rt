@@ -1,11 +1,13 @@
 // The library's exported functions, for callers in C and Rust. include/hanthuvelo.h declares them.
 ghost use mathlib.Core.Path.{_≡_};
 ghost use Rattle.format.specs.Outcomes.{writingReportOf};
+ghost use Rattle.reciprocal.specs.Reports.{codedReciprocal, reciprocalReportOf};
 ghost use Rattle.recovery.specs.Recovery.{Settled};
 ghost use Rattle.trial.specs.Trial.{Trial};
 use format::Report;
 use format::Writing;
 use format::WritingReport;
+use reciprocal::ReciprocalReport;
 
 // Any job, any area: the caller owes nothing. The report is in the paper's numbers.
 #[no_mangle]
@@ -50,4 +52,13 @@ pub extern "C" fn hanthuvelo_trial(
 {
     let writing = trial::trial(header, coefficients, start, spoiled, area);
     writing_reported(writing)
+}
+
+// Any code and any number: the caller owes nothing. A code above 3 names no prime, and what is 0 modulo the prime has no reciprocal.
+#[no_mangle]
+pub extern "C" fn hanthuvelo_reciprocal(prime_code: u32, number: u32) -> ReciprocalReport
+    ensures { λ r. ⌜ r ≡ reciprocalReportOf (codedReciprocal «prime_code» number) ⌝ }
+{
+    let answer = reciprocal::coded_reciprocal(prime_code, number);
+    reciprocal::reported(answer)
 }

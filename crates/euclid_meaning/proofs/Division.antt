@@ -18,9 +18,9 @@ use Rattle.poly.proofs.Lists.{bounded-mono}
 use Rattle.poly.proofs.Lengths.{length-at-most}
 use Rattle.poly_meaning.proofs.Series.{series, series-below, zeros-means}
 use Rattle.poly_meaning.proofs.Degrees.{length-means}
-use Rattle.division.specs.Division.{degreeOf, leadingReciprocal, remainderOf, quotientOf}
-use Rattle.division.proofs.Leading.{Divisor, degree-is}
-use Rattle.division.proofs.Steps.{bounded-remainder, bounded-quotient}
+use Rattle.division.specs.Division.{degreeOf, remainderOf, quotientOf}
+use Rattle.division.proofs.Leading.{Divisor, degree-is, leading-number}
+use Rattle.division.proofs.Steps.{remainder-steps, quotient-steps, bounded-remainder, bounded-quotient}
 use Rattle.euclid_meaning.proofs.Steps.{steps-mean}
 
 module _ (p : ℕ) (P : IsPrime p) {b : List ℕ} {lb : ℕ} (D : Divisor p b lb) where
@@ -36,16 +36,17 @@ module _ (p : ℕ) (P : IsPrime p) {b : List ℕ} {lb : ℕ} (D : Divisor p b lb
   module _ {a : List ℕ} {la : ℕ} (la-fits : la ≤ 32) (ba : Bounded p la a) (size : length a ≡ 32) where
     pub division-equation : series p P a
         ≡ addS (residueRing p P) (mulS (residueRing p P) (series p P (quotientOf p a b)) (series p P b)) (series p P (remainderOf p a b))
-    unfolding quotientOf remainderOf
     division-equation =
+        let u = leading-number D in
         let d = degree-is D in
         let l = D .positive in
         let fits = D .fits in
         let short = length-at-most a la (ba .within) in
-        sym (steps-mean p P (degreeOf b) (leadingReciprocal p b) (bounded-mono (D .bounded) (omega arith)) (lengthOf a - degreeOf b) a (replicate 32 0)
+        rw (quotient-steps p a b (u .1), remainder-steps p a b (u .1))
+        (sym (steps-mean p P (degreeOf b) (u .0) (bounded-mono (D .bounded) (omega arith)) (lengthOf a - degreeOf b) a (replicate 32 0)
         (omega arith) size (length-replicate {A = ℕ} 32 0) (λ j h. at-zeros 32 j)
         ∙ ap (λ q. addS R (mulS R q (series p P b)) (series p P a)) (zeros-means p P 32)
-        ∙ ap (λ q. addS R q (series p P a)) (null-mulS R (series p P b)) ∙ null-add (seriesRing R) (series p P a))
+        ∙ ap (λ q. addS R q (series p P a)) (null-mulS R (series p P b)) ∙ null-add (seriesRing R) (series p P a)))
 
     -- quotient and remainder of the lists, as those of the polynomials
     abbrev pub division-means : Division (residueField p P) (series p P a) (series p P b) (la + 1 - lb) (lb - 1)

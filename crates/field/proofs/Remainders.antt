@@ -1,7 +1,7 @@
 -- Laws of remainders that the library of numbers lacks.
 use Prim.Native.Nat.{ℕ, _+_, _*_, _/_, _%_, _≤_, _<_, _^_}
 use mathlib.Core.Path.{_≡_, sym, ap, _∙_}
-use native.Mathlib.Nat.{add-mul-mod-self-right, div-add-mod', le-of-lt, lt-of-le-of-lt, mul-comm, mul-le-mul, mul-le-mul-left, mul-lt-mul-of-pos-right}
+use native.Mathlib.Nat.{add-mul-mod-self-right, div-add-mod', le-of-lt, lt-of-le-of-lt, mod-eq-of-lt, mul-comm, mul-le-mul, mul-le-mul-left, mul-lt-mul-of-pos-right}
 use native.Mathlib.Omega.{arith}
 use lib.Pow.{pow-pos}
 
@@ -13,6 +13,12 @@ mod-mul a b p =
 
 pub mul-mod : (a b p : ℕ) → (a * (b % p)) % p ≡ (a * b) % p
 mul-mod a b p = rw (mul-comm a (b % p), mul-comm a b) (mod-mul b a p)
+
+-- a factor that leaves 1 changes nothing
+pub times-unit : (p x y : ℕ) → x < p → y % p ≡ 1 → x * y % p ≡ x
+times-unit p x y l e =
+    let one : x * 1 ≡ x = omega arith in
+    sym (mul-mod x y p) ∙ ap (λ t. x * t % p) e ∙ ap (λ t. t % p) one ∙ mod-eq-of-lt l
 
 -- numbers that are equal up to multiples of p leave the same
 pub same-remainder : (p a m b n : ℕ) → a + m * p ≡ b + n * p → a % p ≡ b % p

@@ -1,9 +1,10 @@
 -- Neither the greatest common divisor nor the denominator in lowest terms is zero, where the denominator before is not.
 use mathlib.Core.Path.{_≡_, refl, sym, ap, _∙_}
 use mathlib.Core.List.{List}
-use Prim.Native.Nat.{ℕ, zero, suc, _-_, _<_}
+use Prim.Native.Nat.{ℕ, zero, suc, _-_, _*_, _%_, _<_}
 use native.Mathlib.Omega.{arith}
 use Rattle.algebra.proofs.Series.{mulS, mulS-null}
+use Rattle.reciprocal.specs.declared.OptionalReciprocal.the-variants.{Number}
 use Rattle.reciprocal.specs.Reciprocals.{reciprocalOf}
 use Rattle.field.proofs.Primality.{IsPrime}
 use Rattle.reciprocal.proofs.PrimeField.{residueRing}
@@ -14,16 +15,27 @@ use Rattle.poly.proofs.Lengths.{length-past}
 use Rattle.poly_meaning.proofs.Degrees.{null-length, length-means-null}
 use Rattle.division.specs.Division.{quotientOf, degreeOf, leadingReciprocal}
 use Rattle.euclid.specs.Euclid.{gcdOf}
-use Rattle.division.proofs.Leading.{stored-bounded, length-stored, divisor-of, leading-inverts}
+use Rattle.division.proofs.Leading.{Divisor, stored-bounded, length-stored, divisor-of, leading-residue, leading-number, leading-inverts}
 use Rattle.euclid.proofs.Euclid.{stored-quotient, gcd-stored, gcd-zero}
 use Rattle.euclid_meaning.proofs.Division.{exact-quotient}
 use Rattle.euclid_meaning.proofs.Euclid.{gcd-means}
-use Rattle.fraction.specs.LowestTerms.{unitOf, denominatorOf}
+use Rattle.fraction.specs.LowestTerms.{unitOf, scaledBy, numeratorOf, denominatorOf}
 
 -- the unit that the code computes from the quotient h and its length
-pub unit-is : (p : ℕ) {k n : ℕ} (a b : List ℕ) {h : List ℕ} → h ≡ quotientOf p b (gcdOf p a b) → n ≡ lengthOf h → k ≡ reciprocalOf p (at h (n - 1)) → k ≡ unitOf p a b
+pub unit-is : (p : ℕ) {k n : ℕ} (a b : List ℕ) {h : List ℕ} → h ≡ quotientOf p b (gcdOf p a b) → n ≡ lengthOf h → Number k ≡ reciprocalOf p (at h (n - 1))
+    → Number k ≡ unitOf p a b
 unfolding unitOf leadingReciprocal degreeOf
 unit-is p a b {h} eh en ek = ek ∙ ap (λ (t : ℕ). reciprocalOf p (at h (t - 1))) en ∙ ap (λ (t : List ℕ). reciprocalOf p (at t (lengthOf t - 1))) eh
+
+-- the definitions, where k is the unit
+module _ (p : ℕ) (a b : List ℕ) {k : ℕ} (u : Number k ≡ unitOf p a b) where
+  pub numerator-scaled : numeratorOf p a b ≡ scaledOf p k (quotientOf p a (gcdOf p a b))
+  unfolding numeratorOf
+  numerator-scaled = ap (λ r. scaledBy p r (quotientOf p a (gcdOf p a b))) (sym u)
+
+  pub denominator-scaled : denominatorOf p a b ≡ scaledOf p k (quotientOf p b (gcdOf p a b))
+  unfolding denominatorOf
+  denominator-scaled = ap (λ r. scaledBy p r (quotientOf p b (gcdOf p a b))) (sym u)
 
 -- b divided by the greatest common divisor of a and b
 module _ {p : ℕ} (P : IsPrime p) {a b : List ℕ} (sa : Stored p a) (sb : Stored p b) (nonzero : lengthOf b ≡ 0 → ⊥) where
@@ -42,14 +54,30 @@ module _ {p : ℕ} (P : IsPrime p) {a b : List ℕ} (sa : Stored p a) (sb : Stor
       nonzero (null-length p P (stored-bounded sb) (C .0 .right-multiple ∙ ap (mulS (residueRing p P) (C .0 .divisor))
       (sym q ∙ length-means-null p P (stored-bounded denominator-stored) z) ∙ mulS-null (residueRing p P) (C .0 .divisor)))
 
+  pub quotient-divisor : Divisor p (quotientOf p b (gcdOf p a b)) (lengthOf (quotientOf p b (gcdOf p a b)))
+  quotient-divisor = divisor-of P denominator-stored quotient-nonzero
+
+  -- its leading coefficient, as the code has it, is not 0 modulo p ..
+  pub quotient-leading : {h : List ℕ} {n : ℕ} → h ≡ quotientOf p b (gcdOf p a b) → n ≡ lengthOf h → 0 < at h (n - 1) % p
+  quotient-leading eh en = rw (en, eh) (leading-residue quotient-divisor)
+
+  -- .. so there is a unit
+  pub unit-number : (k : ℕ) × (Number k ≡ unitOf p a b)
+  unfolding unitOf
+  unit-number = leading-number quotient-divisor
+
+  pub unit-inverts : {k : ℕ} → Number k ≡ unitOf p a b → k * at (quotientOf p b (gcdOf p a b)) (lengthOf (quotientOf p b (gcdOf p a b)) - 1) % p ≡ 1
+  unfolding unitOf
+  unit-inverts u = leading-inverts quotient-divisor u
+
   -- the denominator's leading coefficient is 1
   denominator-top : at (denominatorOf p a b) (lengthOf (quotientOf p b (gcdOf p a b)) - 1) ≡ 1
-  unfolding denominatorOf unitOf scaledOf scaledAt
+  unfolding scaledOf scaledAt
   denominator-top =
-      let D = divisor-of P denominator-stored quotient-nonzero in
-      let fits = D .fits in
-      let positive = D .positive in
-      at-tabulate 32 _ _ (omega arith) ∙ leading-inverts D
+      let u = unit-number .1 in
+      let fits = quotient-divisor .fits in
+      let positive = quotient-divisor .positive in
+      rw (denominator-scaled p a b u) (at-tabulate 32 _ _ (omega arith) ∙ unit-inverts u)
 
   pub denominator-nonzero : 0 < lengthOf (denominatorOf p a b)
   denominator-nonzero = by-length (lengthOf (denominatorOf p a b)) refl

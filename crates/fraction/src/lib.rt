@@ -30,7 +30,7 @@ pub fn lowest_terms(q: Prime, n: usize, phi: Poly, psi: Poly) -> Fraction
     let numerator = a.quotient;
     let denominator = h.quotient;
     let lh = poly::length(n, denominator);
-    let k = reciprocal::reciprocal(q, denominator.c[lh - 1]);
+    let k = reciprocal::nonzero_reciprocal(q, denominator.c[lh - 1]);
     Fraction {
         numerator: poly_scaled::scaled(q, n, k, numerator),
         denominator: poly_scaled::scaled(q, n, k, denominator),

@@ -18,7 +18,7 @@ use Rattle.poly.specs.Operations.{
   productAt,
   productOf,
 }
-use Rattle.reciprocal.specs.Reciprocals.{leastFrom, reciprocalOf}
+use Rattle.reciprocal.specs.Reciprocals.{reciprocalOf}
 use Rattle.division.specs.Division.{
   shifted,
   cancelledAt,
@@ -89,7 +89,7 @@ unfolding table resultOf outcomeOf outcomeOfRows headerOf boundsOf spareBitOf fi
     startCandidate unsolvableCandidate pairsAfter stepBy startOf smallerOf combinedOf advancedOf discrepancyOf valueOf combinationOf
     combinationAt timesLinearOf timesLinearAt scaledOf scaledAt lengthOf lengthBelow sumBelow productAt productOf unitOf numeratorOf
     denominatorOf gcdOf gcdFrom remainderOf quotientOf leadingReciprocal degreeOf quotientFrom remainderFrom divisionStep cancelFactor cancelledOf
-    cancelledAt shifted reciprocalOf leastFrom wrongRow wordOf countBelow coefficientBytes outputBytes
+    cancelledAt shifted reciprocalOf wrongRow wordOf countBelow coefficientBytes outputBytes
 as-expected = refl
 
 pub all-hold : EveryHolds all

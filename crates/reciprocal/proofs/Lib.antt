@@ -1,3 +1,4 @@
 pub mod Reciprocals
 mod Table
 pub mod PrimeField
+pub mod Examples

@@ -7,10 +7,9 @@ use native.Mathlib.Decide.{Fin·val-path, Fin-discrete}
 use native.Mathlib.Omega.{arith}
 use Rattle.algebra.proofs.Ring.{Ring}
 use Rattle.algebra.proofs.Field.{Field}
-use Rattle.reciprocal.specs.Reciprocals.{reciprocalOf}
 use Rattle.field.proofs.Primality.{IsPrime}
 use Rattle.field.proofs.Remainders.{mod-mul, mul-mod}
-use Rattle.reciprocal.proofs.Reciprocals.{reciprocal-inverts}
+use Rattle.reciprocal.proofs.Reciprocals.{inverse-exists}
 
 module _ (p : ℕ) (P : IsPrime p) where
   abbrev pub Residue : Type 0
@@ -44,9 +43,6 @@ module _ (p : ℕ) (P : IsPrime p) where
 
   unfoldable pub negR : Residue → Residue
   negR a = residue (p - a .0)
-
-  unfoldable pub invR : Residue → Residue
-  invR a = residue (reciprocalOf p (a .0))
 
   pub residue-add : (m n : ℕ) → addR (residue m) (residue n) ≡ residue (m + n)
   unfolding addR
@@ -114,16 +110,26 @@ module _ (p : ℕ) (P : IsPrime p) where
     mul-add = mulR-add;
   }
 
-  -- the reciprocal of a residue that is not 0
-  pub mulR-inv : (a : Residue) → a ≢ residue 0 → mulR a (invR a) ≡ residue 1
-  unfolding invR
-  mulR-inv a nz =
-      mulR-comm a (invR a) ∙ ap (mulR (invR a)) (sym (residue-number a)) ∙ residue-mul _ (a .0)
-      ∙ residue-equal _ _ (reciprocal-inverts p P (a .0) (positive (a .0 % p) refl) ∙ sym (mod-eq-of-lt (let t = P .two in omega arith)))
+  -- numbers whose product leaves 1 have residues that are each other's reciprocals
+  pub residue-unit : (m n : ℕ) → m * n % p ≡ 1 → mulR (residue n) (residue m) ≡ residue 1
+  residue-unit m n e =
+      mulR-comm _ _ ∙ residue-mul m n ∙ residue-equal _ _ (e ∙ sym (mod-eq-of-lt (let t = P .two in omega arith)))
+
+  -- a residue that is not 0 has one
+  inverse-of : (a : Residue) → a ≢ residue 0 → (r : ℕ) × (r < p) × (r * a .0 % p ≡ 1)
+  inverse-of a nz = inverse-exists p P (a .0) (positive (a .0 % p) refl)
     where
       positive : (n : ℕ) → a .0 % p ≡ n → 0 < n
       positive (suc n) e = omega arith
       positive zero e = absurd (nz (sym (residue-number a) ∙ residue-equal _ 0 (e ∙ sym (zero-mod p))))
+
+  pub invR : (a : Residue) → a ≢ residue 0 → Residue
+  invR a nz = residue (inverse-of a nz .0)
+
+  pub mulR-inv : (a : Residue) (nz : a ≢ residue 0) → mulR a (invR a nz) ≡ residue 1
+  unfolding invR
+  mulR-inv a nz =
+      ap (λ x. mulR x (invR a nz)) (sym (residue-number a)) ∙ residue-unit (inverse-of a nz .0) (a .0) (inverse-of a nz .2)
 
   pub one-not-null : residue 1 ≢ residue 0
   one-not-null e =

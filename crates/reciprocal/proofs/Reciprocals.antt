@@ -1,60 +1,53 @@
 -- What the reciprocal is: the one residue whose product with a leaves 1.
 use Prim.Native.Nat.{ℕ, zero, suc, _+_, _*_, _-_, _/_, _%_, _≤_, _<_}
-use mathlib.Core.Path.{_≡_, refl, sym, ap, _∙_, fun-ext}
-use mathlib.Core.Bool.{Bool, true, false, cond}
+use mathlib.Core.Path.{_≡_, refl, sym, ap, _∙_}
+use mathlib.Core.Logic.{_↔_}
 use native.Mathlib.Nat.{add-mul-mod-self-right, div-add-mod', mod-eq-of-lt, mod-lt, mul-le-mul-left, one-mul}
 use native.Mathlib.Decide.{decLe}
 use native.Mathlib.Omega.{arith}
 use lib.Dec.{eqb}
 use borrow.Author.Tests.{eq-eqb, ne-eqb, eqb-true}
-use Rattle.reciprocal.specs.Reciprocals.{leastFrom, reciprocalOf}
+use Rattle.row_search.specs.declared.Found.{Found}
+use Rattle.row_search.specs.declared.Found.the-variants.{At, Nothing}
+use Rattle.row_search.specs.Search.{firstBelow}
+use Rattle.row_search.proofs.FirstBelow.{found-only, found-passes, none-below, first-cong}
+use Rattle.reciprocal.specs.declared.OptionalReciprocal.the-variants.{Number, None}
+use Rattle.reciprocal.specs.Reciprocals.{reciprocalFound, reciprocalOf}
 use Rattle.lists.proofs.Truth.{clash}
-use Rattle.field.proofs.Remainders.{mod-mul, mul-mod}
+use Rattle.field.proofs.Remainders.{mod-mul, mul-mod, times-unit}
 use Rattle.field.proofs.Primality.{IsPrime}
 
--- a test that r passes, and no other number below m, finds r
-least-is : (test : ℕ → Bool) (m r : ℕ) → r < m → test r ≡ true → ((s : ℕ) → s < m → test s ≡ true → s ≡ r)
-    → (n k : ℕ) → k + n ≡ m → k ≤ r → r ≡ leastFrom n k test
-unfolding leastFrom
-least-is test m r l pass only zero k e u = absurd (omega arith)
-least-is test m r l pass only (suc n) k e u = go (test k) refl (least-is test m r l pass only n (suc k) (omega arith))
-  where
-    go : (b : Bool) → test k ≡ b → (k < r → r ≡ leastFrom n (suc k) test) → r ≡ cond b k (leastFrom n (suc k) test)
-    go true t later = sym (only k (omega arith) t)
-    go false t later = later (above (decLe (suc k) r))
-      where
-        above : Dec (suc k ≤ r) → k < r
-        above (yes h) = h
-        above (no h) =
-            let same : r ≡ k = omega arith in
-            clash (sym pass ∙ ap test same ∙ t)
+number-not-none : {r : ℕ} → Number r ≡ None → ⊥
+number-not-none e = clash cc
 
--- a test that nothing passes finds 0
-least-none : (test : ℕ → Bool) → ((s : ℕ) → test s ≡ false) → (n k : ℕ) → 0 ≡ leastFrom n k test
-unfolding leastFrom
-least-none test fail zero k = refl
-least-none test fail (suc n) k = rw (fail k) (least-none test fail n (suc k))
+same-number : {r s : ℕ} → Number r ≡ Number s → r ≡ s
+same-number e = cc
 
 module _ (p a : ℕ) where
   -- s = s r a = r s a = r
   at-most-one : (r s : ℕ) → r < p → s < p → r * a % p ≡ 1 → s * a % p ≡ 1 → s ≡ r
   at-most-one r s lr ls er es =
       let swap : s * (r * a) ≡ r * (s * a) = omega arith in
-      sym (leaves s ls (r * a) er) ∙ ap (λ x. x % p) swap ∙ leaves r lr (s * a) es
-    where
-      leaves : (x : ℕ) → x < p → (y : ℕ) → y % p ≡ 1 → x * y % p ≡ x
-      leaves x l y e =
-          let unit : x * 1 ≡ x = omega arith in
-          sym (mul-mod x y p) ∙ ap (λ t. (x * t) % p) e ∙ ap (λ t. t % p) unit ∙ mod-eq-of-lt l
+      sym (times-unit p s (r * a) ls er) ∙ ap (λ x. x % p) swap ∙ times-unit p r (s * a) lr es
 
-  pub reciprocal-is : (r : ℕ) → r < p → r * a % p ≡ 1 → r ≡ reciprocalOf p a
+  pub reciprocal-is : (r : ℕ) → r < p → r * a % p ≡ 1 → Number r ≡ reciprocalOf p a
   unfolding reciprocalOf
   reciprocal-is r l e =
-      least-is (λ s. eqb (s * a % p) 1) p r l (eq-eqb _ _ e) (λ s ls t. at-most-one r s l ls e (eqb-true _ _ t)) p 0 (omega arith) (omega arith)
+      ap reciprocalFound (sym (found-only _ p r l (eq-eqb _ _ e) (λ s ls t. at-most-one r s l ls e (eqb-true _ _ t))))
 
-  pub reciprocal-of-zero : 1 < p → a % p ≡ 0 → 0 ≡ reciprocalOf p a
+  -- what is a reciprocal leaves 1
+  pub reciprocal-inverts : (r : ℕ) → Number r ≡ reciprocalOf p a → r * a % p ≡ 1
   unfolding reciprocalOf
-  reciprocal-of-zero two z = least-none (λ s. eqb (s * a % p) 1) (λ s. ne-eqb _ _ (λ e. not-one s e)) p 0
+  reciprocal-inverts r e = by (firstBelow p (λ s. eqb (s * a % p) 1)) refl e
+    where
+      by : (f : Found) → firstBelow p (λ s. eqb (s * a % p) 1) ≡ f → Number r ≡ reciprocalFound f → r * a % p ≡ 1
+      by (At s) found e = rw (same-number e) (eqb-true _ _ (found-passes _ p s found))
+      by Nothing found e = absurd (number-not-none e)
+
+  -- whatever is 0 modulo p has none
+  pub zero-has-none : 1 < p → a % p ≡ 0 → None ≡ reciprocalOf p a
+  unfolding reciprocalOf
+  zero-has-none two z = ap reciprocalFound (sym (none-below _ p (λ s l. ne-eqb _ _ (not-one s))))
     where
       not-one : (s : ℕ) → s * a % p ≡ 1 → ⊥
       not-one s e =
@@ -64,7 +57,7 @@ module _ (p a : ℕ) where
 
   pub reciprocal-of-residue : reciprocalOf p (a % p) ≡ reciprocalOf p a
   unfolding reciprocalOf
-  reciprocal-of-residue = ap (leastFrom p 0) (fun-ext (λ r. ap (λ t. eqb t 1) (mul-mod r a p)))
+  reciprocal-of-residue = ap reciprocalFound (first-cong p _ _ (λ r l. ap (λ t. eqb t 1) (mul-mod r a p)))
 
 -- One step of the computation: p = (p / b) b + p % b, so p - p / b times b leaves p % b.
 next-factor : (p b : ℕ) → 1 < b → b * (p - p / b) % p ≡ p % b % p
@@ -98,10 +91,20 @@ module _ (p : ℕ) (P : IsPrime p) (a : ℕ) where
           let falls = mod-lt p {m = b} l in
           next (P .free b (omega arith) s) (omega arith) (omega arith) (reciprocal-step p a acc b (omega arith) s e)
 
-  pub reciprocal-inverts : 0 < a % p → reciprocalOf p a * a % p ≡ 1
-  reciprocal-inverts l =
+  pub inverse-exists : 0 < a % p → (r : ℕ) × (r < p) × (r * a % p ≡ 1)
+  inverse-exists l =
       let start : 1 * a % p ≡ a % p = ap (λ x. x % p) (one-mul a) in
-      let small = mod-lt a {m = p} (let t = P .two in omega arith) in
-      let f = found (a % p) (a % p) 1 l (omega arith) small start in
-      let e : f .0 % p * a % p ≡ 1 = mod-mul (f .0) a p ∙ f .1 in
-      ap (λ r. r * a % p) (sym (reciprocal-is p a (f .0 % p) (mod-lt _ (let t = P .two in omega arith)) e)) ∙ e
+      let two = P .two in
+      let f = found (a % p) (a % p) 1 l (omega arith) (mod-lt a {m = p} (omega arith)) start in
+      (f .0 % p, mod-lt _ (omega arith), mod-mul (f .0) a p ∙ f .1)
+
+  -- modulo a prime only what is 0 has none
+  pub nonzero-has-one : 0 < a % p → (r : ℕ) × (Number r ≡ reciprocalOf p a)
+  nonzero-has-one l = let i = inverse-exists l in (i .0, reciprocal-is p a (i .0) (i .1) (i .2))
+
+  pub none-exactly : (reciprocalOf p a ≡ None) ↔ (a % p ≡ 0)
+  none-exactly = (λ e. by (a % p) refl e, λ z. sym (zero-has-none p a (let two = P .two in omega arith) z))
+    where
+      by : (n : ℕ) → a % p ≡ n → reciprocalOf p a ≡ None → n ≡ 0
+      by zero m e = refl
+      by (suc n) m e = absurd (number-not-none (nonzero-has-one (omega arith) .1 ∙ e))

@@ -1,1 +1,2 @@
 pub mod Reciprocals
+pub mod Reports

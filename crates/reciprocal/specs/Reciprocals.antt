@@ -1,14 +1,17 @@
--- The reciprocal modulo p of any number, from 0 to p - 1.
-use Prim.Native.Nat.{ℕ, zero, suc, _*_, _%_}
-use mathlib.Core.Bool.{Bool, cond}
+-- Paper 02, item 2: the reciprocal of a number modulo p, or "no reciprocal".
+use Prim.Native.Nat.{ℕ, _*_, _%_}
 use lib.Dec.{eqb}
+use Rattle.row_search.specs.declared.Found.{Found}
+use Rattle.row_search.specs.declared.Found.the-variants.{At, Nothing}
+use Rattle.row_search.specs.Search.{firstBelow}
+use Rattle.reciprocal.specs.declared.OptionalReciprocal.{OptionalReciprocal}
+use Rattle.reciprocal.specs.declared.OptionalReciprocal.the-variants.{Number, None}
 
--- The least of r, r + 1, .., r + n - 1 that passes the test, or 0 where none does. The `let` waits, so that a search that is
--- computed stops at what it finds.
-unfoldable pub leastFrom : ℕ → ℕ → (ℕ → Bool) → ℕ
-leastFrom zero r test = 0
-leastFrom (suc n) r test = let later = leastFrom n (suc r) test in cond (test r) r later
+-- what a search among the numbers below p finds, as a reciprocal
+abbrev pub reciprocalFound : Found → OptionalReciprocal
+reciprocalFound (At r) = Number r
+reciprocalFound Nothing = None
 
--- the reciprocal: the number below p whose product with a leaves 1. There is at most one; 0 where there is none, so 0 for a = 0.
-unfoldable pub reciprocalOf : ℕ → ℕ → ℕ
-reciprocalOf p a = leastFrom p 0 (λ r. eqb (r * a % p) 1)
+-- The number below p whose product with a leaves 1 modulo p. There is at most one; none where a is 0 modulo p, and for a prime p only there.
+unfoldable pub reciprocalOf : (p a : ℕ) → OptionalReciprocal
+reciprocalOf p a = reciprocalFound (firstBelow p (λ r. eqb (r * a % p) 1))

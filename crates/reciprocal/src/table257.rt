@@ -1,9 +1,10 @@
 // Reciprocals modulo 257, from a constant table.
 ghost use Prim.Native.Nat.{_<_};
 ghost use mathlib.Core.Path.{_≡_};
+ghost use Rattle.reciprocal.specs.declared.OptionalReciprocal.the-variants.{Number};
 ghost use Rattle.reciprocal.specs.Reciprocals.{reciprocalOf};
 
-// Entry times index is 1 modulo 257, but for index 0.
+// Entry times index is 1 modulo 257. Entry 0 only fills its place: 0 has no reciprocal, and no call reads it.
 const RECIPROCALS: [u32; 257] = [
     0,
     1,
@@ -264,9 +265,10 @@ const RECIPROCALS: [u32; 257] = [
     256,
 ];
 
+// The reciprocal of a residue that is not 0.
 pub fn reciprocal_of(a: u32) -> u32
-    requires { ⌜ a < 257 ⌝ }
-    ensures { λ r. ⌜ r ≡ reciprocalOf 257 a ⌝ }
+    requires { ⌜ (0 < a) × (a < 257) ⌝ }
+    ensures { λ r. ⌜ Number r ≡ reciprocalOf 257 a ⌝ }
 {
     let i = a as usize;
     RECIPROCALS[i]

@@ -1,17 +1,15 @@
 -- The greatest common divisor of lists g, f 0, .., f (n - 1) is one in the ring of polynomials: a common divisor in the ideal of them all.
-use mathlib.Core.Path.{_≡_, refl, ap, subst, _∙_}
+use mathlib.Core.Path.{_≡_, refl, sym, subst}
 use mathlib.Core.List.{List}
 use Prim.Native.Nat.{ℕ, zero, suc, _+_, _<_}
 use native.Mathlib.Numerals.{add-one}
 use native.Mathlib.Omega.{arith}
-use Rattle.algebra.proofs.Ring.{Ring, mul-comm}
-use Rattle.algebra.proofs.Series.{Series, constS, mulS, constS-mul}
-use Rattle.algebra.proofs.Bounds.{polynomial-constS}
+use Rattle.algebra.proofs.Series.{Series, constS}
 use Rattle.algebra.proofs.Field.{Field}
 use Rattle.algebra.proofs.Degree.{HasDegree}
 use Rattle.algebra.proofs.Euclid.{CommonDivisor}
-use Rattle.algebra.proofs.Ideal.{times, InIdeal, FamilyDivisor, family-step, family-divisor}
-use Rattle.algebra.proofs.LowestTerms.{constant-of, scale-constS}
+use Rattle.algebra.proofs.Ideal.{InIdeal, FamilyDivisor, family-step, family-divisor}
+use Rattle.algebra.proofs.Reduced.{ideal-of-constant}
 use Rattle.field.proofs.Primality.{IsPrime}
 use Rattle.reciprocal.proofs.PrimeField.{residueField}
 use Rattle.poly.specs.Coefficients.{Bounded, Stored}
@@ -35,9 +33,6 @@ unfolding commonDivisorOf
 common-next p f g i = rw add-one
 
 module _ (F : Field) (f : ℕ → Series (F .ring)) (g : Series (F .ring)) where
-  open Field F using (ring as R, inv, inv-mul)
-  open Ring R using (one)
-
   -- a common divisor in the ideal of the f's and g, and the series that it is
   abbrev pub DivisorIs : ℕ → Series (F .ring) → Type 0
   DivisorIs n d = (D : FamilyDivisor F n f g) × (D .divisor ≡ d)
@@ -46,18 +41,12 @@ module _ (F : Field) (f : ℕ → Series (F .ring)) (g : Series (F .ring)) where
   pub divisor-step : (n : ℕ) {d e : Series (F .ring)} → DivisorIs n d → (C : CommonDivisor F (f n) d) → C .divisor ≡ e → DivisorIs (suc n) e
   unfolding family-step
   divisor-step n {e = e} D =
-      subst (λ (d : Series R). (C : CommonDivisor F (f n) d) → C .divisor ≡ e → DivisorIs (suc n) e) (D .1)
+      subst (λ (d : Series (F .ring)). (C : CommonDivisor F (f n) d) → C .divisor ≡ e → DivisorIs (suc n) e) (D .1)
       (λ C h. (family-step F n f g (D .0) C, h))
 
   -- where the divisor is a constant and not null, 1 is in the ideal
   pub constant-ideal : (n : ℕ) {d : Series (F .ring)} → DivisorIs n d → HasDegree F d zero → InIdeal F n f g (constS (F .ring) (F .ring .one))
-  constant-ideal n {d} D degree =
-      subst (InIdeal F n f g) to-one (times (constS R (inv (d zero))) (polynomial-constS R (inv (d zero))) (D .0 .member))
-    where
-      to-one : mulS R (constS R (inv (d zero))) (D .0 .divisor) ≡ constS R one
-      to-one =
-          ap (mulS R (constS R (inv (d zero)))) (D .1 ∙ constant-of F d (degree .low)) ∙ constS-mul R (inv (d zero)) _
-          ∙ scale-constS F (inv (d zero)) (d zero) ∙ ap (constS R) (mul-comm R _ _ ∙ inv-mul (d zero) (degree .top))
+  constant-ideal n D degree = ideal-of-constant F n f g (D .0) (subst (λ e. HasDegree F e zero) (sym (D .1)) degree)
 
 module _ (p : ℕ) (P : IsPrime p) (f : ℕ → List ℕ) {g : List ℕ} (sg : Stored p g) where
   pub common-stored : (n : ℕ) → ((i : ℕ) → i < n → Stored p (f i)) → Stored p (commonDivisorOf p f g n)

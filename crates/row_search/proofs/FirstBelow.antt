@@ -1,12 +1,12 @@
 -- Laws of the first number below a bound that passes a test.
 use mathlib.Core.Bool.{Bool, true, false}
 use mathlib.Core.Logic.{⊎-elim}
-use mathlib.Core.Path.{_≡_, refl, sym, ap, ap₂, subst}
+use mathlib.Core.Path.{_≡_, refl, sym, ap, ap₂, subst, _∙_}
 use Prim.Native.Nat.{ℕ, zero, suc, _+_, _≤_, _<_}
 use native.Mathlib.Nat.{not-suc-le-zero, le-of-suc-le-suc, eq-or-lt-of-le}
 use native.Mathlib.Numerals.{add-one}
 use native.Mathlib.Omega.{arith}
-use Rattle.lists.proofs.Truth.{clash}
+use Rattle.lists.proofs.Truth.{clash, never-true}
 use Rattle.row_search.specs.declared.Found.{Found}
 use Rattle.row_search.specs.declared.Found.the-variants.{At, Nothing}
 use Rattle.row_search.specs.Search.{firstBelow, anyBelow, orElse, ifHolds, isFound}
@@ -70,6 +70,25 @@ module _ (test : ℕ → Bool) where
   unfolding firstBelow
   none-below zero all = refl
   none-below (suc n) all = rw (none-below n (λ i l. all i (omega arith)), all n (omega arith)) refl
+
+  -- what a search finds passes the test
+  pub found-passes : (n i : ℕ) → firstBelow n test ≡ At i → test i ≡ true
+  unfolding firstBelow
+  found-passes zero i e = absurd (at-not-nothing (sym e))
+  found-passes (suc n) i e = by (firstBelow n test) (test n) refl refl e (found-passes n i)
+    where
+      by : (f : Found) (b : Bool) → firstBelow n test ≡ f → test n ≡ b → orElse f (ifHolds b n) ≡ At i
+          → (firstBelow n test ≡ At i → test i ≡ true) → test i ≡ true
+      by (At k) b ef eb e lower = lower (ef ∙ e)
+      by Nothing true ef eb e lower = let same : n ≡ i = cc in rw (← same) eb
+      by Nothing false ef eb e lower = absurd (at-not-nothing (sym e))
+
+  -- a search finds the only number that passes
+  pub found-only : (n i : ℕ) → i < n → test i ≡ true → ((j : ℕ) → j < n → test j ≡ true → j ≡ i) → firstBelow n test ≡ At i
+  found-only n i l pass only = first-at i n (none-below i (λ j m. never-true _ (λ t. below j m (only j (omega arith) t)))) pass l
+    where
+      below : (j : ℕ) → j < i → j ≡ i → ⊥
+      below j m e = omega arith
 
 -- tests that agree below the bound find the same
 pub first-cong : (n : ℕ) (t u : ℕ → Bool) → ((i : ℕ) → i < n → t i ≡ u i) → firstBelow n t ≡ firstBelow n u

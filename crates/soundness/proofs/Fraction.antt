@@ -1,9 +1,8 @@
 -- The fraction that the code makes is phi / psi in lowest terms.
-use mathlib.Core.Path.{_≡_, sym, _∙_, ap, ap₂, subst}
+use mathlib.Core.Path.{_≡_, sym, _∙_, ap, subst}
 use mathlib.Core.Logic.{_≢_}
 use mathlib.Core.List.{List}
-use Prim.Native.Nat.{ℕ, suc, _<_}
-use native.Mathlib.Nat.{mod-eq-of-lt}
+use Prim.Native.Nat.{ℕ, suc}
 use native.Mathlib.Omega.{arith}
 use Rattle.algebra.proofs.Ring.{Ring}
 use Rattle.algebra.proofs.Field.{Field}
@@ -11,23 +10,23 @@ use Rattle.algebra.proofs.Series.{Series, nullS, scaleS, mulS}
 use Rattle.algebra.proofs.Degree.{HasDegree}
 use Rattle.algebra.proofs.Euclid.{CommonDivisor}
 use Rattle.algebra.proofs.LowestTerms.{LowestTerms, lowest-terms-of, monic-degree}
-use Rattle.reciprocal.specs.Reciprocals.{reciprocalOf}
+use Rattle.reciprocal.specs.declared.OptionalReciprocal.the-variants.{Number}
 use Rattle.field.proofs.Primality.{IsPrime}
-use Rattle.reciprocal.proofs.PrimeField.{Residue, residue, invR, residueRing, residueField}
+use Rattle.reciprocal.proofs.PrimeField.{Residue, residue, residue-unit, mulR, residueRing, residueField}
 use Rattle.poly.specs.Coefficients.{at, Bounded, Stored}
 use Rattle.poly.specs.Operations.{lengthOf, scaledOf}
 use Rattle.poly.proofs.Lists.{bounded-mono}
 use Rattle.poly.proofs.Bounds.{bounded-scaled}
 use Rattle.poly_meaning.proofs.Series.{series, series-at, scaled-means}
 use Rattle.poly_meaning.proofs.Degrees.{length-means, degree-length, null-length}
-use Rattle.division.specs.Division.{quotientOf, degreeOf, leadingReciprocal}
+use Rattle.division.specs.Division.{quotientOf, degreeOf}
 use Rattle.euclid.specs.Euclid.{gcdOf}
 use Rattle.division.proofs.Leading.{stored-bounded, length-stored, Divisor, divisor-of}
 use Rattle.euclid.proofs.Euclid.{gcd-stored, stored-quotient}
 use Rattle.euclid_meaning.proofs.Division.{exact-quotient}
 use Rattle.euclid_meaning.proofs.Euclid.{gcd-means}
 use Rattle.fraction.specs.LowestTerms.{unitOf, numeratorOf, denominatorOf}
-use Rattle.fraction.proofs.Denominators.{divisor-nonzero, quotient-nonzero}
+use Rattle.fraction.proofs.Denominators.{divisor-nonzero, quotient-divisor, unit-number, unit-inverts, numerator-scaled, denominator-scaled}
 
 -- what the two lists of the fraction are
 pub record FractionMeans (p : ℕ) (P : IsPrime p) (phi psi : List ℕ) : Type 0 where
@@ -44,11 +43,6 @@ module _ (p : ℕ) (P : IsPrime p) where
 
   abbrev F : Field
   F = residueField p P
-
-  -- the reciprocal of a residue is the residue of the reciprocal
-  inverse-means : (n : ℕ) → n < p → invR p P (residue p P n) ≡ residue p P (reciprocalOf p n)
-  unfolding invR residue
-  inverse-means n l = ap (λ x. residue p P (reciprocalOf p x)) (mod-eq-of-lt l)
 
   module _ {phi psi : List ℕ} (sa : Stored p phi) (sb : Stored p psi) (nonzero : lengthOf psi ≡ 0 → ⊥) where
     abbrev c : List ℕ
@@ -92,12 +86,12 @@ module _ (p : ℕ) (P : IsPrime p) where
 
     length-h : lengthOf h ≡ suc m
     unfolding m degreeOf
-    length-h = let positive = divisor-of P sh (quotient-nonzero P sa sb nonzero) .positive in omega arith
+    length-h = let positive = quotient-divisor P sa sb nonzero .positive in omega arith
 
     degree-h : HasDegree F (C .g') m
     degree-h = subst (λ f. HasDegree F f m) denominator-cofactor (length-means p P (stored-bounded sh) m length-h)
 
-    -- the leading coefficient of the cofactor, and its reciprocal
+    -- the leading coefficient of the cofactor
     k : Residue p P
     k = residue p P (at h m)
 
@@ -105,29 +99,47 @@ module _ (p : ℕ) (P : IsPrime p) where
     unfolding k
     k-is = sym (series-at p P h m) ∙ ap (λ f. f m) denominator-cofactor
 
-    unit-means : residue p P (unitOf p phi psi) ≡ invR p P k
-    unfolding unitOf leadingReciprocal k m
-    unit-means = sym (inverse-means (at h (degreeOf h)) (sh .below (degreeOf h)))
+    -- its reciprocal is the residue of the unit
+    unit : ℕ
+    unit = unit-number P sa sb nonzero .0
 
-    scaled-by-unit : (a : List ℕ) (s : Series R) → Stored p a → series p P a ≡ s
-        → scaleS R (invR p P k) s ≡ series p P (scaledOf p (unitOf p phi psi) a)
-    scaled-by-unit a s st e =
-        sym (scaled-means p P (unitOf p phi psi) (stored-bounded st) (length-stored st) ∙ ap₂ (scaleS R) unit-means e)
+    unit-is : Number unit ≡ unitOf p phi psi
+    unfolding unit
+    unit-is = unit-number P sa sb nonzero .1
 
-    bounded-by-unit : (a : List ℕ) → Stored p a → Bounded p 32 (scaledOf p (unitOf p phi psi) a)
-    bounded-by-unit a st = bounded-mono (bounded-scaled (stored-bounded st) (unitOf p phi psi) (let two = P .two in omega arith)) (length-stored st)
+    i : Residue p P
+    i = residue p P unit
+
+    inverts : mulR p P k i ≡ residue p P 1
+    unfolding degreeOf k m i
+    inverts = residue-unit p P unit (at h m) (unit-inverts P sa sb nonzero unit-is)
+
+    -- b is a times the unit
+    scaled-by-unit : {a b : List ℕ} {s : Series R} → Stored p a → series p P a ≡ s → b ≡ scaledOf p unit a → scaleS R i s ≡ series p P b
+    unfolding i
+    scaled-by-unit st e scaled =
+        sym (ap (series p P) scaled ∙ scaled-means p P unit (stored-bounded st) (length-stored st) ∙ ap (scaleS R i) e)
+
+    bounded-by-unit : {a b : List ℕ} → Stored p a → b ≡ scaledOf p unit a → Bounded p 32 b
+    bounded-by-unit st scaled = rw scaled (bounded-mono (bounded-scaled (stored-bounded st) unit (let two = P .two in omega arith)) (length-stored st))
+
+    numerator-is : numeratorOf p phi psi ≡ scaledOf p unit (quotientOf p phi c)
+    numerator-is = numerator-scaled p phi psi unit-is
+
+    denominator-is : denominatorOf p phi psi ≡ scaledOf p unit h
+    denominator-is = denominator-scaled p phi psi unit-is
 
     W : LowestTerms F (series p P phi) (series p P psi)
-    W = lowest-terms-of F (series p P phi) (series p P psi) C psi-nonnull m degree-h k k-is
+    W = lowest-terms-of F (series p P phi) (series p P psi) C psi-nonnull m degree-h k k-is i inverts
 
     pub fraction-means : FractionMeans p P phi psi
-    unfolding W numeratorOf denominatorOf
+    unfolding W
     fraction-means = record {
       terms = W;
-      numerator = scaled-by-unit (quotientOf p phi c) (C .f') sq numerator-cofactor;
-      denominator = scaled-by-unit h (C .g') sh denominator-cofactor;
-      numerator-bounded = bounded-by-unit (quotientOf p phi c) sq;
-      denominator-bounded = bounded-by-unit h sh;
-      denominator-length = degree-length p P (bounded-by-unit h sh) m
-          (subst (λ f. HasDegree F f m) (scaled-by-unit h (C .g') sh denominator-cofactor) (monic-degree F (W .denominator) m (W .monic)));
+      numerator = scaled-by-unit sq numerator-cofactor numerator-is;
+      denominator = scaled-by-unit sh denominator-cofactor denominator-is;
+      numerator-bounded = bounded-by-unit sq numerator-is;
+      denominator-bounded = bounded-by-unit sh denominator-is;
+      denominator-length = degree-length p P (bounded-by-unit sh denominator-is) m
+          (subst (λ f. HasDegree F f m) (scaled-by-unit sh denominator-cofactor denominator-is) (monic-degree F (W .denominator) m (W .monic)));
     }

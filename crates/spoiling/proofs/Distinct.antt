@@ -9,25 +9,13 @@ use borrow.Author.Tests.{eqb-true, ne-eqb, not-true, not-false}
 use lib.Dec.{eqb}
 use Rattle.row_search.specs.declared.Found.{Found}
 use Rattle.row_search.specs.declared.Found.the-variants.{At, Nothing}
-use Rattle.row_search.specs.Search.{firstBelow, orElse, ifHolds}
-use Rattle.row_search.proofs.FirstBelow.{at-not-nothing, none-passes}
+use Rattle.row_search.specs.Search.{firstBelow}
+use Rattle.row_search.proofs.FirstBelow.{none-passes, found-passes}
 use Rattle.word.specs.Word.{flagOf, countBelow}
 use Rattle.word.proofs.Counts.{count-change}
 use Rattle.spoiling.specs.Draws.{drawn, topBits}
 use Rattle.spoiling.specs.Spoiling.{numberIn, untakenFrom, chosenRow, amountOf, addedBy, spoiledBy}
 use Rattle.spoiling.proofs.Added.{chosen-row-below, added-chosen, added-other, amount-positive}
-
--- what a search finds passes the test
-found-passes : (test : ℕ → Bool) (n i : ℕ) → firstBelow n test ≡ At i → test i ≡ true
-unfolding firstBelow
-found-passes test zero i e = absurd (at-not-nothing (sym e))
-found-passes test (suc n) i e = by (firstBelow n test) (test n) refl refl e (found-passes test n i)
-  where
-    by : (f : Found) (b : Bool) → firstBelow n test ≡ f → test n ≡ b → orElse f (ifHolds b n) ≡ At i
-        → (firstBelow n test ≡ At i → test i ≡ true) → test i ≡ true
-    by (At k) b ef eb e lower = lower (ef ∙ e)
-    by Nothing true ef eb e lower = let same : n ≡ i = cc in rw (← same) eb
-    by Nothing false ef eb e lower = absurd (at-not-nothing (sym e))
 
 -- none passes, or all do
 count-none : (n : ℕ) → countBelow n (λ i. false) ≡ 0

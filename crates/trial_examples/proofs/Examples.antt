@@ -15,7 +15,7 @@ use Rattle.row_search.specs.Search.{firstBelow}
 use Rattle.poly.specs.Operations.{valueOf, lengthOf, lengthBelow}
 use Rattle.word.specs.Word.{wordOf, countBelow}
 use Rattle.answer.specs.Bytes.{fourBytes, coefficientBytes, numeratorStart, overwritten}
-use Rattle.reciprocal.specs.Reciprocals.{leastFrom, reciprocalOf}
+use Rattle.reciprocal.specs.Reciprocals.{reciprocalOf}
 use Rattle.division.specs.Division.{remainderOf, remainderFrom, degreeOf, divisionStep, cancelledOf, cancelledAt, cancelFactor, leadingReciprocal, shifted}
 use Rattle.euclid.specs.Euclid.{gcdFrom, gcdOf}
 use Rattle.reduced.specs.CommonDivisor.{commonDivisorOf}
@@ -55,7 +55,7 @@ page-facts : TrialFacts header coefficients 2
 page-facts = trial-facts header coefficients 2 page-passes
 
 page-reduced : TrialReduced header coefficients
-unfolding boundsOf headerOf polynomialFrom numeratorStart tabulate lengthOf lengthBelow commonDivisorOf gcdOf gcdFrom remainderOf remainderFrom degreeOf divisionStep cancelledOf cancelledAt cancelFactor leadingReciprocal reciprocalOf leastFrom shifted
+unfolding boundsOf headerOf polynomialFrom numeratorStart tabulate lengthOf lengthBelow commonDivisorOf gcdOf gcdFrom remainderOf remainderFrom degreeOf divisionStep cancelledOf cancelledAt cancelFactor leadingReciprocal reciprocalOf firstBelow shifted
 page-reduced =
     constant-reduced 7 (modulus-prime P7) 2 _ (denominator-stored header coefficients 2 page-facts) (numerator-stored header coefficients 2 page-facts)
     (λ e. omega arith) refl refl

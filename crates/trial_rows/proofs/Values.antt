@@ -7,62 +7,54 @@ use native.Mathlib.Nat.{mod-lt, mod-eq-of-lt}
 use native.Mathlib.Omega.{arith}
 use borrow.Author.Tests.{eq-eqb, eqb-true}
 use lib.Dec.{eqb}
-use Rattle.lists.proofs.Truth.{clash, never-true}
+use Rattle.lists.proofs.Truth.{clash}
 use Rattle.field.proofs.Primality.{IsPrime}
-use Rattle.field.proofs.Remainders.{mod-mul, mul-mod}
+use Rattle.field.proofs.Remainders.{mod-mul, mul-mod, times-unit}
+use Rattle.reciprocal.specs.declared.OptionalReciprocal.the-variants.{Number}
 use Rattle.reciprocal.specs.Reciprocals.{reciprocalOf}
-use Rattle.reciprocal.proofs.Reciprocals.{reciprocal-inverts}
+use Rattle.reciprocal.proofs.Reciprocals.{reciprocal-inverts, nonzero-has-one}
 use Rattle.poly.specs.Operations.{valueOf}
 use Rattle.poly.proofs.Values.{value-below}
 use Rattle.row_search.specs.declared.Found.the-variants.{At}
 use Rattle.row_search.specs.Search.{firstBelow}
-use Rattle.row_search.proofs.FirstBelow.{none-below, search-found}
+use Rattle.row_search.proofs.FirstBelow.{found-only}
 use Rattle.spoiling.specs.Spoiling.{numberIn}
 use Rattle.trial_rows.specs.Rows.{poleAt, rightValue, valueBefore}
 
--- a search among the numbers below n finds the only one that passes
-found-only : (test : ℕ → Bool) (n y : ℕ) → y < n → test y ≡ true → ((z : ℕ) → z < n → test z ≡ true → z ≡ y) → firstBelow n test ≡ At y
-found-only test n y l pass only =
-    sym (search-found test (record { within = omega arith; none = none-below test y (λ z m. never-true _ (λ t. below z m (only z (omega arith) t))) }) l pass)
-  where
-    below : (z : ℕ) → z < y → z ≡ y → ⊥
-    below z m e = omega arith
-
+-- d is not 0 modulo p, so it has a reciprocal r
 module _ {p : ℕ} (P : IsPrime p) (v d : ℕ) (small : v < p) (low : d < p) (positive : 0 < d) where
-  inverts : reciprocalOf p d * d % p ≡ 1
-  inverts = reciprocal-inverts p P d (let e = mod-eq-of-lt low in omega arith)
+  pub residue-positive : 0 < d % p
+  residue-positive = rw (mod-eq-of-lt low) positive
+
+  reciprocal : (r : ℕ) × (Number r ≡ reciprocalOf p d)
+  reciprocal = nonzero-has-one p P d residue-positive
 
   -- x times the reciprocal of d times d is x
-  restores : (x : ℕ) → x < p → x * (reciprocalOf p d * d) % p ≡ x
-  restores x l =
-      let one : x * 1 ≡ x = omega arith in
-      sym (mul-mod x (reciprocalOf p d * d) p) ∙ ap (λ t. x * t % p) inverts ∙ ap (λ t. t % p) one ∙ mod-eq-of-lt l
+  restores : {r : ℕ} → Number r ≡ reciprocalOf p d → (x : ℕ) → x < p → x * (r * d) % p ≡ x
+  restores {r} u x l = times-unit p x (r * d) l (reciprocal-inverts p d r u)
 
-  right : d * (v * reciprocalOf p d % p) % p ≡ v
-  right =
-      let r = reciprocalOf p d in
+  right : {r : ℕ} → Number r ≡ reciprocalOf p d → d * (v * r % p) % p ≡ v
+  right {r} u =
       let order : d * (v * r) ≡ v * (r * d) = omega arith in
-      mul-mod d (v * r) p ∙ ap (λ t. t % p) order ∙ restores v small
+      mul-mod d (v * r) p ∙ ap (λ t. t % p) order ∙ restores u v small
 
-  only : (z : ℕ) → z < p → v ≡ d * z % p → z ≡ v * reciprocalOf p d % p
-  only z l e =
-      let r = reciprocalOf p d in
+  only : {r : ℕ} → Number r ≡ reciprocalOf p d → (z : ℕ) → z < p → v ≡ d * z % p → z ≡ v * r % p
+  only {r} u z l e =
       let order : d * z * r ≡ z * (r * d) = omega arith in
-      sym (ap (λ t. t * r % p) e ∙ mod-mul (d * z) r p ∙ ap (λ t. t % p) order ∙ restores z l)
+      sym (ap (λ t. t * r % p) e ∙ mod-mul (d * z) r p ∙ ap (λ t. t % p) order ∙ restores u z l)
 
   pub quotient-only : (y z : ℕ) → y < p → z < p → v ≡ d * y % p → v ≡ d * z % p → y ≡ z
-  quotient-only y z l m ey ez = only y l ey ∙ sym (only z m ez)
+  quotient-only y z l m ey ez = only (reciprocal .1) y l ey ∙ sym (only (reciprocal .1) z m ez)
 
   -- the number below p whose product with d leaves v is v times the reciprocal
-  pub quotient-found : firstBelow p (λ y. eqb v (d * y % p)) ≡ At (v * reciprocalOf p d % p)
-  quotient-found =
-      found-only _ p (v * reciprocalOf p d % p) (mod-lt _ (omega arith)) (eq-eqb _ _ (sym right)) (λ z l t. only z l (eqb-true _ _ t))
+  pub quotient-found : {r : ℕ} → Number r ≡ reciprocalOf p d → firstBelow p (λ y. eqb v (d * y % p)) ≡ At (v * r % p)
+  quotient-found {r} u = found-only _ p (v * r % p) (mod-lt _ (omega arith)) (eq-eqb _ _ (sym (right u))) (λ z l t. only u z l (eqb-true _ _ t))
 
   pub quotient-right : v ≡ d * numberIn (firstBelow p (λ y. eqb v (d * y % p))) % p
-  quotient-right = rw quotient-found (sym right)
+  quotient-right = rw (quotient-found (reciprocal .1)) (sym (right (reciprocal .1)))
 
   pub quotient-below : numberIn (firstBelow p (λ y. eqb v (d * y % p))) < p
-  quotient-below = rw quotient-found (mod-lt _ (omega arith))
+  quotient-below = rw (quotient-found (reciprocal .1)) (mod-lt _ (omega arith))
 
 -- the values of f and of g at the point of row r, g being 0 at a pole
 module _ {p : ℕ} (P : IsPrime p) (f : ℕ → List ℕ) (g : List ℕ) (r i : ℕ) where

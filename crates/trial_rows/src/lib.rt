@@ -39,7 +39,7 @@ fn quotient(q: Prime, numerator: u32, denominator: u32) -> u32
     if denominator == 0 {
         return 0;
     }
-    field::product(q, numerator, reciprocal::reciprocal(q, denominator))
+    field::product(q, numerator, reciprocal::nonzero_reciprocal(q, denominator))
 }
 
 // The number in row r and a column; by holds what is added to the first values.

@@ -34,6 +34,30 @@ impl Run {
     }
 }
 
+/// A run that says nothing on standard error, prints this and ends with this status.
+pub fn assert_prints(run: &Run, expected: &str, status: i32) {
+    assert_eq!(run.text, expected);
+    assert_eq!((run.said.as_str(), run.status), ("", status));
+}
+
+/// A run that ends well, says nothing on standard error and prints this.
+pub fn assert_done(run: &Run, expected: &str) {
+    assert_prints(run, expected, 0);
+}
+
+/// A run that fails before it prints anything, with this one line.
+pub fn assert_fails(run: &Run, expected: &str) {
+    assert_eq!(run.said, format!("{expected}\n"));
+    assert_eq!((run.text.as_str(), run.status), ("", 2));
+}
+
+/// A verb with words that it does not take, and what is said of them.
+pub fn assert_bad_use(verb: &str, words: &str, message: &str) {
+    let words: Vec<&str> = words.split_whitespace().collect();
+    let expected = format!("hanthuvelo {verb}: {message}; see `hanthuvelo {verb} --help`");
+    assert_fails(&run(&[&[verb], &words[..]].concat()), &expected);
+}
+
 /// The command with these words; its input and outputs are pipes.
 pub fn command(words: &[&str]) -> Command {
     let mut command = Command::new(COMMAND);

@@ -41,9 +41,13 @@ impl Field {
         result
     }
 
-    /// The reciprocal of a nonzero residue by Fermat's theorem: a^(p − 2).
+    /// The reciprocal of a nonzero residue by Fermat's theorem: a^(p − 2). Zero has none and ends in a
+    /// panic, as its power would be 0.
     pub fn reciprocal(self, residue: u32) -> u32 {
-        debug_assert!(residue != 0);
+        assert!(
+            !residue.is_multiple_of(self.prime),
+            "zero has no reciprocal"
+        );
         self.power(residue, self.prime - 2)
     }
 }

@@ -2,12 +2,13 @@
 //!
 //! It shares no code with the library or with `plain`, and its method is another one. It reads the
 //! job bytes, tests the refusals, solves by Gaussian elimination and writes the answer by itself.
-//! Beside it the second writer of trial jobs, as separate.
+//! Beside it the second writer of trial jobs and the second reciprocal, as separate.
 
 mod equations;
 mod field;
 pub mod polynomial;
 mod reader;
+mod reciprocal;
 pub mod reduced;
 mod text;
 mod trial;
@@ -16,6 +17,7 @@ pub use field::Field;
 use hanthuvelo::Report;
 use polynomial::Polynomial;
 use reader::{Problem, Row};
+pub use reciprocal::reciprocal;
 pub use text::printed;
 pub use trial::{next_word, trial, trial_job, TrialJob};
 

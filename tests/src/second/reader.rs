@@ -1,6 +1,7 @@
 //! The job bytes and the refusals 1 to 7 of paper 01, each test in its own function.
 
-const PRIMES: [u32; 4] = [7, 97, 257, 65521];
+/// The primes by their codes.
+pub const PRIMES: [u32; 4] = [7, 97, 257, 65521];
 
 pub struct Refusal {
     pub number: u32,

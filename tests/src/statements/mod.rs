@@ -14,13 +14,15 @@ use std::path::{Path, PathBuf};
 use walk::Walk;
 
 /// The functions whose contracts are the demands and the requests, each in the sources of its crate.
-pub const ROOTS: [(&str, &str); 6] = [
+pub const ROOTS: [(&str, &str); 8] = [
     ("recovery", "recover"),
     ("enlargement", "recover_both"),
     ("capi", "hanthuvelo_recover"),
     ("trial", "trial"),
     ("trial_recovery", "write_and_recover"),
     ("capi", "hanthuvelo_trial"),
+    ("reciprocal", "reciprocal"),
+    ("capi", "hanthuvelo_reciprocal"),
 ];
 
 /// Where the page stands in the repository.

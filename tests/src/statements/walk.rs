@@ -37,14 +37,20 @@ pub struct Walk {
 }
 
 impl Walk {
+    /// From all contracts.
     pub fn of(root: &Path) -> Walk {
+        Walk::from_contracts(root, &ROOTS)
+    }
+
+    /// From these contracts, each a function in the sources of its crate.
+    pub fn from_contracts(root: &Path, contracts: &[(&str, &str)]) -> Walk {
         let root = root.to_path_buf();
         let mut walk = Walk {
             root,
             ..Walk::default()
         };
         let mut open: Vec<Place> = Vec::new();
-        for (name, function) in ROOTS {
+        for (name, function) in contracts {
             match walk.in_sources(name, function) {
                 Some(place) => open.push(place),
                 None => walk.complaints.push(format!(

@@ -1,4 +1,4 @@
-use mathlib.Core.Path.{_≡_, ap, ap₂, _∙_}
+use mathlib.Core.Path.{_≡_, sym, ap, _∙_}
 use Prim.Native.Nat.{_<_}
 use native.Mathlib.Omega.{arith}
 use Rattle.poly.specs.Coefficients.{Stored}
@@ -10,8 +10,15 @@ use Rattle.poly.proofs.Lengths.{bounded-length}
 use Rattle.division.specs.Division.{quotientOf}
 use Rattle.euclid.specs.Euclid.{gcdOf}
 use Rattle.division.proofs.Leading.{bounded-stored}
-use Rattle.fraction.specs.LowestTerms.{numeratorOf, denominatorOf}
-use Rattle.fraction.proofs.Denominators.{unit-is, divisor-nonzero, quotient-nonzero, denominator-nonzero}
+use Rattle.fraction.proofs.Denominators.{
+  unit-is,
+  numerator-scaled,
+  denominator-scaled,
+  divisor-nonzero,
+  quotient-nonzero,
+  quotient-leading,
+  denominator-nonzero,
+}
 use borrow.Author.Needs.{needs}
 use Rattle.fraction.proofs.lowest_terms.Statement.{statement}
 use Rattle.fraction.proofs.lowest_terms.Tie as tie
@@ -81,8 +88,15 @@ divide-requires-2 c κs =
 length-requires-4 : tie.Need-length-requires-4
 length-requires-4 c κs = (omega arith, λ k l. c .before .before .divide2 .ensures .1 .within k (omega (arith, common-length (c .before .before .before .before))))
 
-sub-reciprocal : tie.Need-sub-reciprocal
-sub-reciprocal c = quotient-length c
+sub-nonzero-reciprocal : tie.Need-sub-nonzero-reciprocal
+sub-nonzero-reciprocal c = quotient-length c
+
+nonzero-requires : tie.Need-nonzero-reciprocal-requires
+nonzero-requires c κs =
+    let H = c .before in
+    let Q = H .before .before .before in
+    let S = Q .before .before .before .before .before .before in
+    quotient-leading (modulus-prime (S .args .q)) (stored-phi S) (stored-psi S) (psi-nonzero S) (quotient-is Q) (H .length4 .ensures .0)
 
 scaled-requires : tie.Need-scaled-requires
 scaled-requires c κs =
@@ -95,19 +109,18 @@ scaled-requires-2 c κs =
     (omega arith, bounded-mono (Q .divide2 .ensures .1) (omega (arith, common-length (Q .before .before))))
 
 returns : tie.Need-returns
-unfolding numeratorOf denominatorOf
 returns c =
     let R = c .before .before in
     let H = R .before .before in
     let Q = H .before .before .before in
     let S = Q .before .before .before .before .before .before in
     let p = modulusOf (S .args .q) in
-    let unit = unit-is p (S .args .phi .c) (S .args .psi .c) (quotient-is Q) (H .length4 .ensures .0) (R .reciprocal .ensures) in
+    let unit = unit-is p (S .args .phi .c) (S .args .psi .c) (quotient-is Q) (H .length4 .ensures .0) (R .nonzero-reciprocal .ensures) in
     let common = Q .before .before .before .gcd .ensures .0 in
     let top = Q .before .divide .ensures .0 ∙ ap (quotientOf p (S .args .phi .c)) common in
-    let denominator = c .scaled2 .ensures .0 ∙ ap₂ (scaledOf p) unit (quotient-is Q) in
+    let denominator = c .scaled2 .ensures .0 ∙ ap (scaledOf p _) (quotient-is Q) ∙ sym (denominator-scaled p _ _ unit) in
     let positive = denominator-nonzero (modulus-prime (S .args .q)) (stored-phi S) (stored-psi S) (psi-nonzero S) in (
-      c .before .scaled .ensures .0 ∙ ap₂ (scaledOf p) unit top,
+      c .before .scaled .ensures .0 ∙ ap (scaledOf p _) top ∙ sym (numerator-scaled p _ _ unit),
       c .before .scaled .ensures .1,
       denominator,
       c .scaled2 .ensures .1,
@@ -125,10 +138,10 @@ lowest-terms-spec =
     divide-requires
     divide-requires-2
     length-requires-4
-    sub-reciprocal
+    sub-nonzero-reciprocal
     (λ c. search needs)
     (λ c. search needs)
-    (λ c κs. search needs)
+    nonzero-requires
     scaled-requires
     scaled-requires-2
     returns)

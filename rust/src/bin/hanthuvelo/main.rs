@@ -1,4 +1,4 @@
-//! The command `hanthuvelo`: jobs recovered, packed and shown for people, and trial jobs written.
+//! The command `hanthuvelo`: jobs recovered, packed and shown for people, trial jobs written, and reciprocals.
 
 mod arguments;
 mod convert;
@@ -8,6 +8,7 @@ mod output;
 mod pieces;
 mod pool;
 mod progress;
+mod reciprocal;
 mod recover;
 mod render;
 mod results;
@@ -32,7 +33,7 @@ struct Verb {
     run: fn(&[OsString]) -> Result<Status, Failure>,
 }
 
-const VERBS: [Verb; 5] = [
+const VERBS: [Verb; 6] = [
     Verb {
         name: "recover",
         summary: "the fractions and the wrong rows of jobs",
@@ -63,19 +64,26 @@ const VERBS: [Verb; 5] = [
         help: trial::HELP,
         run: trial::run,
     },
+    Verb {
+        name: "reciprocal",
+        summary: "reciprocals modulo a prime, and which numbers have none",
+        help: reciprocal::HELP,
+        run: reciprocal::run,
+    },
 ];
 
 const ABOUT: &str = "\
 hanthuvelo: exact fractions over one denominator, from values modulo a prime of which some are wrong
 
 usage: hanthuvelo VERB [OPTION].. FILE..
+       hanthuvelo reciprocal PRIME NUMBER..
        hanthuvelo VERB --help
        hanthuvelo --version
 ";
 
 const STATUS: &str = "
 FILE is a job as bytes, or a readable one, told apart by its bytes; of trial a readable trial; - is standard input.
-Exit status: 0 done; 1 a job was refused; 2 bad use, or an input that cannot be read.
+Exit status: 0 done; 1 a job was refused, or a number has no reciprocal; 2 bad use, or an input that cannot be read.
 ";
 
 fn main() -> ExitCode {
@@ -117,7 +125,7 @@ fn run(words: &[OsString]) -> Result<Status, Failure> {
 }
 
 fn help() -> String {
-    let line = |verb: &Verb| format!("  {:<9}{}\n", verb.name, verb.summary);
+    let line = |verb: &Verb| format!("  {:<12}{}\n", verb.name, verb.summary);
     let verbs: String = VERBS.iter().map(line).collect();
     format!("{ABOUT}\n{verbs}{STATUS}")
 }
