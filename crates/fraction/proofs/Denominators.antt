@@ -1,7 +1,7 @@
 -- Neither the greatest common divisor nor the denominator in lowest terms is zero, where the denominator before is not.
-use mathlib.Core.Path.{_≡_, refl, sym, ap, _∙_}
+use mathlib.Core.Path.{_≡_, sym, ap, _∙_}
 use mathlib.Core.List.{List}
-use Prim.Native.Nat.{ℕ, zero, suc, _-_, _*_, _%_, _<_}
+use Prim.Native.Nat.{ℕ, _-_, _*_, _%_, _<_}
 use native.Mathlib.Omega.{arith}
 use Rattle.algebra.proofs.Series.{mulS, mulS-null}
 use Rattle.reciprocal.specs.declared.OptionalReciprocal.the-variants.{Number}
@@ -42,7 +42,7 @@ module _ {p : ℕ} (P : IsPrime p) {a b : List ℕ} (sa : Stored p a) (sb : Stor
   pub divisor-nonzero : lengthOf (gcdOf p a b) ≡ 0 → ⊥
   divisor-nonzero z = nonzero (gcd-zero P sa sb z .1)
 
-  denominator-stored : Stored p (quotientOf p b (gcdOf p a b))
+  pub denominator-stored : Stored p (quotientOf p b (gcdOf p a b))
   denominator-stored = stored-quotient P sb (gcd-stored P sa sb) divisor-nonzero
 
   pub quotient-nonzero : lengthOf (quotientOf p b (gcdOf p a b)) ≡ 0 → ⊥
@@ -80,8 +80,8 @@ module _ {p : ℕ} (P : IsPrime p) {a b : List ℕ} (sa : Stored p a) (sb : Stor
       rw (denominator-scaled p a b u) (at-tabulate 32 _ _ (omega arith) ∙ unit-inverts u)
 
   pub denominator-nonzero : 0 < lengthOf (denominatorOf p a b)
-  denominator-nonzero = by-length (lengthOf (denominatorOf p a b)) refl
-    where
-      by-length : (n : ℕ) → lengthOf (denominatorOf p a b) ≡ n → 0 < n
-      by-length (suc n) e = omega arith
-      by-length zero e = let z = length-past (denominatorOf p a b) (lengthOf (quotientOf p b (gcdOf p a b)) - 1) (omega arith) in let t = denominator-top in absurd (omega arith)
+  denominator-nonzero =
+      let top = denominator-top in
+      let nonzero : lengthOf (denominatorOf p a b) ≡ 0 → ⊥ =
+      λ e. (let past = length-past (denominatorOf p a b) (lengthOf (quotientOf p b (gcdOf p a b)) - 1) (omega arith) in omega arith) in
+      omega arith

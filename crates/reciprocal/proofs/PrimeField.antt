@@ -1,5 +1,5 @@
 -- The residues modulo a prime p are a field. A residue is a number below p, and a law of residues is the law of numbers under `residue`.
-use Prim.Native.Nat.{ℕ, zero, suc, _+_, _-_, _*_, _%_, _<_, Fin}
+use Prim.Native.Nat.{ℕ, _+_, _-_, _*_, _%_, _<_, Fin}
 use mathlib.Core.Path.{_≡_, refl, sym, ap, _∙_}
 use mathlib.Core.Logic.{_≢_}
 use native.Mathlib.Nat.{add-comm, add-mod-mod, add-zero, mod-add-mod, mod-eq-of-lt, mod-lt, mod-self, mul-comm, mul-one, zero-mod}
@@ -117,11 +117,9 @@ module _ (p : ℕ) (P : IsPrime p) where
 
   -- a residue that is not 0 has one
   inverse-of : (a : Residue) → a ≢ residue 0 → (r : ℕ) × (r < p) × (r * a .0 % p ≡ 1)
-  inverse-of a nz = inverse-exists p P (a .0) (positive (a .0 % p) refl)
-    where
-      positive : (n : ℕ) → a .0 % p ≡ n → 0 < n
-      positive (suc n) e = omega arith
-      positive zero e = absurd (nz (sym (residue-number a) ∙ residue-equal _ 0 (e ∙ sym (zero-mod p))))
+  inverse-of a nz =
+      let nonzero : a .0 % p ≡ 0 → ⊥ = λ e. nz (sym (residue-number a) ∙ residue-equal _ 0 (e ∙ sym (zero-mod p))) in
+      inverse-exists p P (a .0) (omega arith)
 
   pub invR : (a : Residue) → a ≢ residue 0 → Residue
   invR a nz = residue (inverse-of a nz .0)

@@ -103,8 +103,7 @@ module _ (p : ℕ) (P : IsPrime p) (a : ℕ) where
   nonzero-has-one l = let i = inverse-exists l in (i .0, reciprocal-is p a (i .0) (i .1) (i .2))
 
   pub none-exactly : (reciprocalOf p a ≡ None) ↔ (a % p ≡ 0)
-  none-exactly = (λ e. by (a % p) refl e, λ z. sym (zero-has-none p a (let two = P .two in omega arith) z))
-    where
-      by : (n : ℕ) → a % p ≡ n → reciprocalOf p a ≡ None → n ≡ 0
-      by zero m e = refl
-      by (suc n) m e = absurd (number-not-none (nonzero-has-one (omega arith) .1 ∙ e))
+  none-exactly = (
+    λ e. let nonzero : 0 < a % p → ⊥ = λ l. number-not-none (nonzero-has-one l .1 ∙ e) in omega arith,
+    λ z. sym (zero-has-none p a (let two = P .two in omega arith) z),
+  )

@@ -26,7 +26,7 @@ use Rattle.euclid.proofs.Euclid.{gcd-stored, stored-quotient}
 use Rattle.euclid_meaning.proofs.Division.{exact-quotient}
 use Rattle.euclid_meaning.proofs.Euclid.{gcd-means}
 use Rattle.fraction.specs.LowestTerms.{unitOf, numeratorOf, denominatorOf}
-use Rattle.fraction.proofs.Denominators.{divisor-nonzero, quotient-divisor, unit-number, unit-inverts, numerator-scaled, denominator-scaled}
+use Rattle.fraction.proofs.Denominators.{divisor-nonzero, denominator-stored, quotient-divisor, unit-number, unit-inverts, numerator-scaled, denominator-scaled}
 
 -- what the two lists of the fraction are
 pub record FractionMeans (p : ℕ) (P : IsPrime p) (phi psi : List ℕ) : Type 0 where
@@ -73,7 +73,7 @@ module _ (p : ℕ) (P : IsPrime p) where
         (C .right-multiple ∙ ap (λ d. mulS R d (C .g')) same) .0
 
     sh : Stored p h
-    sh = stored-quotient P sb (gcd-stored P sa sb) (divisor-nonzero P sa sb nonzero)
+    sh = denominator-stored P sa sb nonzero
 
     sq : Stored p (quotientOf p phi c)
     sq = stored-quotient P sa (gcd-stored P sa sb) (divisor-nonzero P sa sb nonzero)

@@ -1,13 +1,12 @@
 -- The value that makes an output right: it is the quotient, below p, and the only one.
-use Prim.Native.Nat.{ℕ, zero, suc, _*_, _%_, _<_}
+use Prim.Native.Nat.{ℕ, _*_, _%_, _<_}
 use mathlib.Core.Path.{_≡_, refl, sym, ap, _∙_}
 use mathlib.Core.Bool.{Bool, true, false}
 use mathlib.Core.List.{List}
 use native.Mathlib.Nat.{mod-lt, mod-eq-of-lt}
 use native.Mathlib.Omega.{arith}
-use borrow.Author.Tests.{eq-eqb, eqb-true}
+use borrow.Author.Tests.{eq-eqb, eqb-true, eqb-false}
 use lib.Dec.{eqb}
-use Rattle.lists.proofs.Truth.{clash}
 use Rattle.field.proofs.Primality.{IsPrime}
 use Rattle.field.proofs.Remainders.{mod-mul, mul-mod, times-unit}
 use Rattle.reciprocal.specs.declared.OptionalReciprocal.the-variants.{Number}
@@ -23,11 +22,8 @@ use Rattle.trial_rows.specs.Rows.{poleAt, rightValue, valueBefore}
 
 -- d is not 0 modulo p, so it has a reciprocal r
 module _ {p : ℕ} (P : IsPrime p) (v d : ℕ) (small : v < p) (low : d < p) (positive : 0 < d) where
-  pub residue-positive : 0 < d % p
-  residue-positive = rw (mod-eq-of-lt low) positive
-
   reciprocal : (r : ℕ) × (Number r ≡ reciprocalOf p d)
-  reciprocal = nonzero-has-one p P d residue-positive
+  reciprocal = nonzero-has-one p P d (rw (mod-eq-of-lt low) positive)
 
   -- x times the reciprocal of d times d is x
   restores : {r : ℕ} → Number r ≡ reciprocalOf p d → (x : ℕ) → x < p → x * (r * d) % p ≡ x
@@ -68,11 +64,7 @@ module _ {p : ℕ} (P : IsPrime p) (f : ℕ → List ℕ) (g : List ℕ) (r i : 
 
   module _ (regular : poleAt p g r ≡ false) where
     denominator-positive : 0 < valueOf p r g
-    denominator-positive = by (valueOf p r g) regular
-      where
-        by : (d : ℕ) → eqb d 0 ≡ false → 0 < d
-        by zero e = clash e
-        by (suc d) e = omega arith
+    denominator-positive = let nonzero = eqb-false (valueOf p r g) 0 regular in omega arith
 
     -- any other row is right
     pub regular-right : valueOf p r (f i) ≡ valueOf p r g * valueBefore p f g r i % p

@@ -1,10 +1,11 @@
 use mathlib.Core.Path.{sym, ap, _∙_}
 use borrow.Author.Needs.{needs}
 use borrow.Author.Tests.{eq-eqb, ne-eqb}
+use native.Mathlib.Nat.{mod-eq-of-lt}
 use native.Mathlib.Omega.{arith}
 use Rattle.field.proofs.Moduli.{modulus-prime}
 use Rattle.spoiling.specs.Spoiling.{numberIn}
-use Rattle.trial_rows.proofs.Values.{residue-positive, quotient-found}
+use Rattle.trial_rows.proofs.Values.{quotient-found}
 use Rattle.trial_rows.proofs.quotient.Statement.{statement}
 use Rattle.trial_rows.proofs.quotient.Tie as tie
 
@@ -12,9 +13,7 @@ returns : tie.Need-returns
 returns c = sym (simp (eq-eqb (c .before .args .denominator) 0 (c .if1 .taken)))
 
 nonzero-requires : tie.Need-nonzero-reciprocal-requires
-nonzero-requires c κs =
-    let g = c .before in
-    residue-positive (modulus-prime (g .args .q)) (g .args .numerator) (g .args .denominator) (g .pre .0) (g .pre .1) (omega arith)
+nonzero-requires c κs = let small = mod-eq-of-lt (c .before .pre .1) in omega arith
 
 returns-2 : tie.Need-returns-2
 returns-2 c =

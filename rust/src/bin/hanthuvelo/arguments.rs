@@ -107,13 +107,7 @@ impl Arguments {
         let Some(value) = self.value(name) else {
             return Ok(None);
         };
-        let (low, high) = (range.start(), range.end());
-        match value.parse() {
-            Ok(number) if range.contains(&number) => Ok(Some(number)),
-            _ => Err(Failure::bad_use(format!(
-                "expected a number from {low} to {high} behind {name}, found `{value}`"
-            ))),
-        }
+        number_within(range, value, &format!(" behind {name}")).map(Some)
     }
 
     pub fn at_least_one_file(&self) -> Result<(), Failure> {
@@ -121,6 +115,17 @@ impl Arguments {
             return Err(Failure::bad_use("expected a file"));
         }
         Ok(())
+    }
+}
+
+/// A word as a number in a range; `place` says behind what it stands, where that is to be said.
+pub fn number_within(range: RangeInclusive<u32>, word: &str, place: &str) -> Result<u32, Failure> {
+    let (low, high) = (range.start(), range.end());
+    match word.parse() {
+        Ok(number) if range.contains(&number) => Ok(number),
+        _ => Err(Failure::bad_use(format!(
+            "expected a number from {low} to {high}{place}, found `{word}`"
+        ))),
     }
 }
 

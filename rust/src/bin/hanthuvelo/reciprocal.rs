@@ -1,5 +1,6 @@
 //! `hanthuvelo reciprocal`: reciprocals modulo a prime, and which numbers have none.
 
+use crate::arguments::number_within;
 use crate::output::{self, Failure};
 use crate::Status;
 use hanthuvelo::Prime;
@@ -48,11 +49,5 @@ fn asked(words: &[OsString]) -> Result<(Prime, Vec<u32>), Failure> {
 }
 
 fn number(word: &OsStr) -> Result<u32, Failure> {
-    let word = word.to_string_lossy();
-    let most = u32::MAX;
-    word.parse().map_err(|_| {
-        Failure::bad_use(format!(
-            "expected a number from 0 to {most}, found `{word}`"
-        ))
-    })
+    number_within(0..=u32::MAX, &word.to_string_lossy(), "")
 }
