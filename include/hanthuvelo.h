@@ -3,7 +3,8 @@
  *
  * Given rows (x; y1 .. yn) modulo a prime p, the library finds the reduced fractions f1/g .. fn/g within the
  * degree bounds that are wrong at no more than E rows, and says which rows those are; or it says that there
- * are none. It also writes trial jobs, whose result is known, from such fractions, and gives reciprocals modulo p.
+ * are none. It also writes trial jobs, whose result is known, from such fractions, judges answers that others computed, and
+ * gives reciprocals modulo p.
  *
  * After `bash install PREFIX`, pkg-config knows the flags as `hanthuvelo`. Without it link
  * target/staticlib/libcapi.a, which `rt staticlib capi` writes. The archive is for x86-64 Linux and needs nothing
@@ -48,11 +49,12 @@ extern "C" {
 
 /*
  * The refusals; the first that applies is returned. A recovery tests 1 to 8 in this order, a trial 1, 2, 3, 4, 9, 5, 10
- * and 7, as said at hanthuvelo_trial.
+ * and 7, as said at hanthuvelo_trial, a judgement 1 to 6 and then 3, as said at hanthuvelo_judge.
  */
 enum {
     HANTHUVELO_RECOVERED = 0,      /* not refused: the area begins with the answer */
     HANTHUVELO_WRITTEN = 0,        /* of a trial: the area begins with the job */
+    HANTHUVELO_JUDGED = 0,         /* of a judgement: the offered answer is judged */
     HANTHUVELO_TOO_SHORT = 1,      /* the job has fewer than 3 bytes */
     HANTHUVELO_SPARE_BIT = 2,      /* the header's last bit is 1 */
     HANTHUVELO_BYTE_COUNT = 3,     /* the job has not the number of bytes that its header fixes */
@@ -150,6 +152,33 @@ struct hanthuvelo_reciprocal {
  * nothing between calls. The structure has the function's name and stands behind the word `struct`, in C++ too.
  */
 struct hanthuvelo_reciprocal hanthuvelo_reciprocal(uint32_t prime_code, uint32_t number);
+
+/* What a call that judges an offered answer returns. */
+struct hanthuvelo_judgement {
+    uint32_t refusal; /* 0 if the answer is judged, else the number of the refusal, 1 to 6 */
+    uint32_t row;     /* the row of the job that refusal 5 or 6 speaks of, counted from 0; else 0 */
+    uint32_t yes;     /* 1 if the offered answer is the job's, else 0 */
+};
+
+/*
+ * Judges the answer_length bytes at `answer`, which somebody offers as the answer of the job of job_length bytes at
+ * `job`: yes exactly if the job has an answer, one that a recovery would give, and the offered bytes are that answer's,
+ * every one of them, the word included. It does not recover the job, and takes less time.
+ *
+ * A coefficient of p or more is a no; so are a leading coefficient of g other than 1, a polynomial of positive degree
+ * that divides g and every f, a word that marks other rows than the wrong ones, or a row that does not exist, and more
+ * wrong rows than E.
+ *
+ * Refused, in this order: 1 to 6 as a recovery of the job is, and then 3 also if the offered answer has not
+ * 4 + 2 ((dg + 1) + n (df + 1)) bytes.
+ *
+ * Any bytes make a job, and any bytes an offered answer. Both are only read, and may overlap. The caller sees to it that
+ * each pointer leads to as many bytes as the length beside it says, and that nothing writes to them until the call
+ * returns. A pointer whose length is 0 is not followed. As a recovery, the call allocates no memory and keeps nothing
+ * between calls.
+ */
+struct hanthuvelo_judgement hanthuvelo_judge(const uint8_t *job, size_t job_length, const uint8_t *answer,
+                                             size_t answer_length);
 
 #ifdef __cplusplus
 }

@@ -1,6 +1,7 @@
 //! An answer: the wrong rows and the polynomials, and the bytes that hold them.
 
 use crate::job::{counted, numbers};
+use crate::trial::output_name;
 use crate::{Bounds, FormatError};
 
 /// A recovered answer: the word of wrong rows, and coefficients up to the degree bounds.
@@ -25,20 +26,15 @@ impl Answer {
             )));
         }
         let answer = Answer::read(bytes, bounds);
-        if let Some(row) = answer.wrong_rows().into_iter().find(|&row| row >= rows) {
+        if let Some(row) = answer.mark_beyond(rows) {
             let rows = counted(rows, "row");
             return Err(FormatError(format!(
                 "expected marks at the job's {rows}, found one at row {row}"
             )));
         }
         let prime = bounds.prime.value();
-        let mut coefficients = answer
-            .numerators
-            .iter()
-            .flatten()
-            .chain(&answer.denominator);
-        match coefficients.find(|&&coefficient| u32::from(coefficient) >= prime) {
-            Some(large) => Err(FormatError(format!(
+        match answer.large_coefficient(prime) {
+            Some((_, _, large)) => Err(FormatError(format!(
                 "expected coefficients below {prime}, found {large}"
             ))),
             None => Ok(answer),
@@ -57,6 +53,23 @@ impl Answer {
             denominator: take(bounds.dg + 1),
             numerators: (0..bounds.outputs).map(|_| take(bounds.df + 1)).collect(),
         }
+    }
+
+    /// The first marked row that does not exist where there are so many.
+    pub(crate) fn mark_beyond(&self, rows: usize) -> Option<usize> {
+        self.wrong_rows().into_iter().find(|&row| row >= rows)
+    }
+
+    /// The first coefficient that is not below the prime: its polynomial's name, its power of u, and itself.
+    pub(crate) fn large_coefficient(&self, prime: u32) -> Option<(String, usize, u16)> {
+        let numerators = self.numerators.iter().enumerate();
+        let numerators = numerators.map(|(output, f)| (output_name(output), f));
+        let mut all = std::iter::once(("g".to_string(), &self.denominator)).chain(numerators);
+        all.find_map(|(name, polynomial)| {
+            let is_large = |&coefficient: &u16| u32::from(coefficient) >= prime;
+            let power = polynomial.iter().position(is_large)?;
+            Some((name, power, polynomial[power]))
+        })
     }
 
     /// The wrong rows, counted from 0, rising.

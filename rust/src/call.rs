@@ -4,7 +4,7 @@ use crate::{Answer, Job, Prime, Refusal, Trial, LONGEST_ANSWER, LONGEST_JOB};
 
 #[allow(unsafe_code)]
 mod linked {
-    use crate::{Report, Written};
+    use crate::{Judgement, Report, Written};
 
     /// What a call for a reciprocal returns; `value` is the reciprocal where `exists` is 1.
     #[repr(C)]
@@ -33,6 +33,13 @@ mod linked {
         ) -> Written;
 
         fn hanthuvelo_reciprocal(prime_code: u32, number: u32) -> Reciprocal;
+
+        fn hanthuvelo_judge(
+            job: *const u8,
+            job_length: usize,
+            answer: *const u8,
+            answer_length: usize,
+        ) -> Judgement;
     }
 
     /// Recovers the job in `job` and writes its answer to the start of `area`.
@@ -81,9 +88,18 @@ mod linked {
         let found = unsafe { hanthuvelo_reciprocal(prime_code, number) };
         (found.exists == 1).then_some(found.value)
     }
+
+    /// Judges an offered answer: whether its bytes are those of the job's answer, every one of them.
+    ///
+    /// Any bytes make a job, and any bytes an offered answer.
+    pub fn judge(job: &[u8], answer: &[u8]) -> Judgement {
+        // SAFETY: both pointers come from live slices of the lengths passed with them, and the function asks nothing else
+        // of its caller.
+        unsafe { hanthuvelo_judge(job.as_ptr(), job.len(), answer.as_ptr(), answer.len()) }
+    }
 }
 
-pub use linked::{reciprocal, recover, trial};
+pub use linked::{judge, reciprocal, recover, trial};
 
 impl Prime {
     /// The reciprocal of a number modulo this prime p: the only r below p whose product with the number is 1 modulo p.
@@ -111,6 +127,34 @@ impl Job {
         match Refusal::of(report, &bytes) {
             Some(refusal) => Err(refusal),
             None => Ok(Answer::read(&area, self.bounds())),
+        }
+    }
+
+    /// Whether these bytes are this job's answer, every one of them; or why they are not judged.
+    ///
+    /// The job is not recovered for that. [`objection`](fn@crate::objection) says why a no is a no.
+    ///
+    /// ```
+    /// use hanthuvelo::{hex, Job};
+    ///
+    /// // Three readings of a constant modulo 7, of which one may be wrong: it is 5, and row 2 is wrong.
+    /// let job: Job = "prime 7 outputs 1 df 0 dg 0 errors 1\n0: 5\n1: 5\n2: 2".parse().expect("a readable job");
+    /// let mut offered = hex::bytes("20000000 0001 0005").expect("bytes");
+    /// assert_eq!(job.judge(&offered), Ok(true));
+    ///
+    /// // The constant 4 is wrong at every row.
+    /// offered[7] = 4;
+    /// assert_eq!(job.judge(&offered), Ok(false));
+    ///
+    /// let refusal = job.judge(&offered[..7]).expect_err("too few bytes");
+    /// assert_eq!(refusal.to_string(), "refused 3: the job's answer has 8 bytes, the offered one has 7");
+    /// ```
+    pub fn judge(&self, offered: &[u8]) -> Result<bool, Refusal> {
+        let bytes = self.pack();
+        let judgement = judge(&bytes, offered);
+        match Refusal::of_judgement(judgement, &bytes, offered) {
+            Some(refusal) => Err(refusal),
+            None => Ok(judgement.is_yes()),
         }
     }
 }

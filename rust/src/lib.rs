@@ -30,11 +30,14 @@
 //!
 //! A [`Trial`] is the way back: a job whose result is known, written from fractions, with rows spoiled on purpose.
 //!
+//! [`Job::judge`] says yes or no to the bytes that another solver offers as a job's answer, without recovering the job. Why
+//! it is a no is said by [`objection`](fn@objection).
+//!
 //! [`Prime::reciprocal`] is the reciprocal of a number modulo a prime, and `None` for zero, which has none: so a curve 1/g
 //! has no value at a pole.
 //!
-//! [`recover`], [`trial`](fn@trial) and [`reciprocal`] are the calls themselves, on any bytes, areas and numbers, as the C
-//! header declares them.
+//! [`recover`], [`judge`], [`trial`](fn@trial) and [`reciprocal`] are the calls themselves, on any bytes, areas and numbers,
+//! as the C header declares them.
 
 #![deny(unsafe_code)]
 #![warn(missing_docs)]
@@ -42,16 +45,19 @@
 mod answer;
 #[cfg(feature = "library")]
 mod call;
+mod field;
 pub mod hex;
 mod job;
+mod objection;
 pub mod readable;
 mod refusal;
 mod trial;
 
 pub use answer::{polynomial_text, trimmed, Answer};
 #[cfg(feature = "library")]
-pub use call::{reciprocal, recover, trial};
+pub use call::{judge, reciprocal, recover, trial};
 pub use job::{Bounds, FormatError, Header, Job, Prime, Row};
+pub use objection::{objection, Fault, Objection};
 pub use refusal::Refusal;
 pub use trial::Trial;
 
@@ -139,5 +145,49 @@ impl Written {
     /// Whether the area begins with a job.
     pub fn is_written(&self) -> bool {
         self.refusal == 0
+    }
+}
+
+/// What a call that judges an offered answer returns.
+///
+/// A refused call has `yes` 0; a judgement has `refusal` 0 and `row` 0.
+#[repr(C)]
+#[derive(Clone, Copy, Debug, PartialEq, Eq)]
+pub struct Judgement {
+    /// The refusal's number, 1 to 6; 0 where the answer is judged.
+    pub refusal: u32,
+    /// The row of the job that refusal 5 or 6 speaks of, counted from 0; else 0.
+    pub row: u32,
+    /// 1 if the offered answer is the job's; else 0.
+    pub yes: u32,
+}
+
+impl Judgement {
+    /// What a call returns that is refused with this number, speaking of this row.
+    pub const fn refused(number: u32, row: u32) -> Judgement {
+        Judgement {
+            refusal: number,
+            row,
+            yes: 0,
+        }
+    }
+
+    /// What a call returns that judges the offered answer.
+    pub const fn judged(is_the_answer: bool) -> Judgement {
+        Judgement {
+            refusal: 0,
+            row: 0,
+            yes: is_the_answer as u32,
+        }
+    }
+
+    /// Whether the offered answer is judged, and the call not refused.
+    pub fn is_judged(&self) -> bool {
+        self.refusal == 0
+    }
+
+    /// Whether the offered answer is the job's.
+    pub fn is_yes(&self) -> bool {
+        self.yes == 1
     }
 }

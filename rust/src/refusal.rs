@@ -1,18 +1,20 @@
 //! A refusal in words.
 
 use crate::job::{counted, numbers};
-use crate::{trimmed, Bounds, Header, Report, Written};
+use crate::objection::{of_denominator, of_length};
+use crate::{Bounds, Header, Judgement, Report, Written};
 use std::error::Error;
 use std::fmt::{Display, Formatter};
 
-/// Why a job is refused, or why a trial job is not written. Shown as `refused 5, row 2: a point or a value is 7 or more`.
+/// Why a job is refused, a trial job not written, or an offered answer not judged. Shown as
+/// `refused 5, row 2: a point or a value is 7 or more`.
 #[derive(Clone, Debug, PartialEq, Eq)]
 pub struct Refusal {
-    /// The number: 1 to 8 of a job; 1 to 5, 7, 9 or 10 of a trial.
+    /// The number: 1 to 8 of a job; 1 to 5, 7, 9 or 10 of a trial; 1 to 6 of a judgement.
     pub number: u32,
     /// The row that refusal 5 or 6 of a job speaks of, counted from 0; else 0.
     pub row: u32,
-    /// What the number means for this job or trial.
+    /// What the number means for this job, trial or offered answer.
     pub reason: String,
     names_a_row: bool,
 }
@@ -56,6 +58,22 @@ impl Refusal {
             },
             names_a_row: false,
         })
+    }
+
+    /// The refusal that a call of [`judge`](crate::judge) on these bytes reported, if it did: what the job is refused for,
+    /// and 3 also where the offered answer has not the number of bytes that the job's has.
+    pub fn of_judgement(judgement: Judgement, job: &[u8], offered: &[u8]) -> Option<Refusal> {
+        if judgement.is_judged() {
+            return None;
+        }
+        let Judgement { refusal, row, .. } = judgement;
+        let mut found = Refusal::of(Report::refused(refusal, row), job)?;
+        let header = Header::read(job).filter(|header| header.job_length() == job.len());
+        let of_offered = header.and_then(|header| of_length(&header.bounds, offered));
+        if let (3, Some(objection)) = (refusal, of_offered) {
+            found.reason = objection.to_string();
+        }
+        Some(found)
     }
 
     /// Whether the refusal speaks of one row.
@@ -142,9 +160,8 @@ fn byte_counts(bounds: Bounds, header: &[u8], coefficients: &[u8]) -> String {
 /// The first cause that applies, g standing before every f.
 fn not_reduced(coefficients: &[u16], bounds: Bounds) -> String {
     let denominator = coefficients.get(..=bounds.dg).unwrap_or_default();
-    match trimmed(denominator).last() {
-        None => "g is zero".to_string(),
-        Some(1) => "a polynomial of positive degree divides g and every f".to_string(),
-        Some(leading) => format!("the leading coefficient of g is {leading}, not 1"),
+    match of_denominator(denominator) {
+        Some(objection) => objection.to_string(),
+        None => "a polynomial of positive degree divides g and every f".to_string(),
     }
 }

@@ -37,7 +37,7 @@ const BAD_WORDS: [(&str, &str); 15] = [
 
 #[test]
 fn bad_words_are_named() {
-    let verbs = "expected a verb of recover, pack, show, unpack, trial, reciprocal";
+    let verbs = "expected a verb of recover, pack, show, unpack, judge, trial, reciprocal";
     let unknown = format!("hanthuvelo: {verbs}, found `recovr`");
     assert_fails(&run(&["recovr", "x"]), &unknown);
     for (words, message) in BAD_WORDS {

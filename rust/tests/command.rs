@@ -196,7 +196,15 @@ fn shown_jobs_pack_into_their_bytes() {
 fn help_and_version_are_printed() {
     let general = run(&["--help"]);
     assert_eq!(general.status, 0);
-    for verb in ["recover", "pack", "show", "unpack", "trial", "reciprocal"] {
+    for verb in [
+        "recover",
+        "pack",
+        "show",
+        "unpack",
+        "judge",
+        "trial",
+        "reciprocal",
+    ] {
         assert!(
             general.text.contains(&format!("\n  {verb} ")),
             "{}",
@@ -321,6 +329,8 @@ fn nothing_panics_on_random_input() {
             &["recover", "--stream", &name][..],
             &["show", &name],
             &["unpack", "examples/h01.job", &name],
+            &["judge", "examples/h01.job", &name],
+            &["judge", &name, "examples/h01.job"],
         ] {
             let run = run(words);
             assert!((0..=2).contains(&run.status), "{words:?}");

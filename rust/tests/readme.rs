@@ -102,7 +102,7 @@ fn every_verb_is_in_the_table_and_has_an_example() {
     }
 }
 
-/// The keys of the schema's table are those of the objects, for each of the three statuses.
+/// The keys of the schema's table are those of the objects, for each of the four statuses.
 #[test]
 fn the_schema_names_every_key() {
     let page = readme();
@@ -110,8 +110,12 @@ fn the_schema_names_every_key() {
     let documented: BTreeSet<String> = page.lines().filter_map(row).collect();
     let mut met = BTreeSet::new();
     let stream = "hanthuvelo pack examples/h01.job examples/h07.job | head -c 29 | hanthuvelo recover --stream --json -";
-    let objects = printed("hanthuvelo recover --json examples README.md") + &printed(stream);
-    for status in ["recovered", "refused", "unreadable"] {
+    let judged = "echo 00 | hanthuvelo judge --json --hex examples/h01.job; \
+                  echo 2000000000010004 | hanthuvelo judge --json --hex examples/h01.job";
+    let objects = printed("hanthuvelo recover --json examples README.md")
+        + &printed(stream)
+        + &printed(judged);
+    for status in ["recovered", "judged", "refused", "unreadable"] {
         assert!(
             objects.contains(&format!("\"status\":\"{status}\"")),
             "{objects}"

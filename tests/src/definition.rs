@@ -1,6 +1,8 @@
-//! Paper 01's definition itself: every answer of a small job, by trying all polynomials.
+//! Paper 01's definition itself: every answer of a small job, by trying all polynomials; and what an
+//! offered answer of any job lacks of it.
 
-use crate::layout::{is_right, wrong_rows, Answer, Job};
+use crate::layout::{is_right, trimmed, wrong_rows, Answer, Job, Row};
+use crate::second::{reduced, Field};
 
 /// Every reduced answer within the job's bounds with at most E wrong rows.
 ///
@@ -26,6 +28,69 @@ pub fn answers(job: &Job) -> Vec<Answer> {
         });
     }
     found
+}
+
+/// What an offered answer can lack of being the job's.
+#[derive(Clone, Copy, Debug, PartialEq, Eq)]
+pub enum Fault {
+    /// A coefficient is p or more.
+    LargeCoefficient,
+    ZeroDenominator,
+    /// The leading coefficient of g is not 1.
+    LeadingCoefficient,
+    /// A polynomial of positive degree divides g and every f.
+    CommonDivisor,
+    /// The word marks a right row, or does not mark a wrong one.
+    WrongMark,
+    /// The word marks a row that does not exist.
+    NoSuchRow,
+    /// More than E rows are wrong.
+    TooManyWrong,
+}
+
+impl Fault {
+    pub const ALL: [Fault; 7] = [
+        Fault::LargeCoefficient,
+        Fault::ZeroDenominator,
+        Fault::LeadingCoefficient,
+        Fault::CommonDivisor,
+        Fault::WrongMark,
+        Fault::NoSuchRow,
+        Fault::TooManyWrong,
+    ];
+}
+
+/// All that an offered answer lacks, so nothing exactly if it is the job's. Each is looked at without
+/// regard to the others, so coefficients of p or more count there by what they are modulo p.
+pub fn faults(job: &Job, offered: &Answer) -> Vec<Fault> {
+    let prime = job.prime();
+    let lists = || std::iter::once(&offered.denominator).chain(&offered.numerators);
+    let mut residues = lists().map(|list| list.iter().map(|number| number % prime).collect());
+    let denominator: Vec<u32> = residues.next().expect("g comes first");
+    let numerators: Vec<Vec<u32>> = residues.collect();
+    let leading = trimmed(&denominator).last().copied().unwrap_or(0);
+    let wrong = wrong_rows(job, &denominator, &numerators);
+    let no_rows = u32::MAX >> job.rows.len();
+    let found = [
+        lists().flatten().any(|&number| number >= prime),
+        leading == 0,
+        leading > 1,
+        leading > 0 && has_common_divisor(&denominator, &numerators, leading, prime),
+        (offered.word ^ wrong) & !no_rows != 0,
+        offered.word & no_rows != 0,
+        wrong.count_ones() as usize > job.error_bound,
+    ];
+    let all = Fault::ALL.into_iter().zip(found);
+    all.filter_map(|(fault, is_there)| is_there.then_some(fault))
+        .collect()
+}
+
+/// Whether g, which has this leading coefficient, and every f have a common divisor, by a rank.
+fn has_common_divisor(g: &[u32], numerators: &[Vec<u32>], leading: u32, prime: u32) -> bool {
+    let field = Field::new(prime);
+    let unit = field.reciprocal(leading);
+    let monic: Vec<u32> = g.iter().map(|&c| field.multiply(c, unit)).collect();
+    !reduced::is_reduced(&monic, numerators, field)
 }
 
 /// At most E rows are wrong, the numerators standing one after the other in `coefficients`.
@@ -100,4 +165,27 @@ pub fn for_each_list(length: usize, prime: u32, visit: &mut dyn FnMut(&[u32])) {
         list[place] += 1;
         list[..place].fill(0);
     }
+}
+
+/// Calls `visit` with every job modulo 7 that has these bounds, no row more than they need, and its rows at the points 0 to
+/// L − 1.
+pub fn for_each_smallest_job(
+    (outputs, df, dg, errors): (usize, usize, usize, usize),
+    visit: &mut dyn FnMut(&Job),
+) {
+    let row_count = df + dg + 2 * errors + 1;
+    for_each_list(row_count * outputs, 7, &mut |values| {
+        let row = |(point, values): (u32, &[u32])| Row {
+            point,
+            values: values.to_vec(),
+        };
+        visit(&Job {
+            prime_code: 0,
+            outputs,
+            numerator_bound: df,
+            denominator_bound: dg,
+            error_bound: errors,
+            rows: (0..).zip(values.chunks(outputs)).map(row).collect(),
+        });
+    });
 }

@@ -3,6 +3,7 @@
 pub mod enlargement;
 mod faulty;
 mod fraction;
+pub mod judged;
 pub mod measured;
 mod planted;
 mod random;
@@ -143,7 +144,7 @@ fn labels(shape: Shape, wrong: WrongRows) -> Vec<Kind> {
         WrongRows::OneTooMany => Kind::OneErrorTooMany,
     }];
     match shape {
-        Shape::Any | Shape::Poles => {}
+        Shape::Any | Shape::Poles | Shape::PartlyCommon | Shape::LongestAnswer => {}
         Shape::CommonFactor => kinds.push(Kind::CommonFactor),
         Shape::AllZero => kinds.push(Kind::AllZero),
         Shape::WholeField => kinds.push(Kind::WholeField),

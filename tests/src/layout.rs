@@ -1,5 +1,5 @@
-//! The formats of paper 01 as the generator and the tests use them: job bytes written, answer
-//! bytes written and read back. The solvers have readers and writers of their own.
+//! The formats of paper 01 as the generator and the tests use them: job and answer bytes written and
+//! read back. The solvers have readers and writers of their own.
 
 /// The primes by their codes.
 pub const PRIMES: [u32; 4] = [7, 97, 257, 65521];
@@ -58,6 +58,32 @@ impl Job {
         }
         bytes
     }
+
+    /// The job that well formed bytes hold. Of other bytes, three at least, it has the header's
+    /// fields, and as many rows as are whole.
+    pub fn unpack(bytes: &[u8]) -> Job {
+        let header = number(&bytes[..2]) << 8 | u32::from(bytes[2]);
+        let field = |low: u32, width: u32| (header >> low) as usize % (1 << width);
+        let outputs = field(20, 2) + 1;
+        let row = |stretch: &[u8]| Row {
+            point: number(&stretch[..2]),
+            values: stretch[2..].chunks(2).map(number).collect(),
+        };
+        let rows = bytes[3..].chunks_exact(2 * (1 + outputs));
+        Job {
+            prime_code: field(22, 2),
+            outputs,
+            numerator_bound: field(10, 5),
+            denominator_bound: field(5, 5),
+            error_bound: field(1, 4),
+            rows: rows.map(row).collect(),
+        }
+    }
+}
+
+/// The 16-bit number in two bytes.
+fn number(pair: &[u8]) -> u32 {
+    u32::from(pair[0]) * 256 + u32::from(pair[1])
 }
 
 /// A row's bytes: the point and the values, 16 bits each.
@@ -95,7 +121,6 @@ impl Answer {
 
     /// The answer in the first bytes of an area, which must be long enough for the job.
     pub fn unpack(area: &[u8], job: &Job) -> Answer {
-        let number = |pair: &[u8]| u32::from(pair[0]) * 256 + u32::from(pair[1]);
         let word = number(&area[..2]) << 16 | number(&area[2..4]);
         let coefficients: Vec<u32> = area[4..job.answer_length()].chunks(2).map(number).collect();
         let (denominator, numerators) = coefficients.split_at(job.denominator_bound + 1);

@@ -13,7 +13,7 @@ pub mod program;
 pub mod second;
 pub mod statements;
 
-use hanthuvelo::{Report, Written};
+use hanthuvelo::{Judgement, Report, Written};
 use std::io::Write;
 use std::str::FromStr;
 
@@ -86,6 +86,28 @@ pub fn reciprocals() -> Vec<Reciprocal> {
         Reciprocal {
             name: "second",
             find: second::reciprocal,
+        },
+    ]
+}
+
+/// One way to judge an answer that is offered for a job.
+#[derive(Clone, Copy)]
+pub struct Judge {
+    pub name: &'static str,
+    pub judge: fn(&[u8], &[u8]) -> Judgement,
+}
+
+/// Every judge to be compared; the library's only where its feature is on.
+pub fn judges() -> Vec<Judge> {
+    vec![
+        #[cfg(feature = "library")]
+        Judge {
+            name: "library",
+            judge: hanthuvelo::judge,
+        },
+        Judge {
+            name: "second",
+            judge: second::judge,
         },
     ]
 }

@@ -113,5 +113,46 @@ pub const REFUSALS: [Example; 10] = [
     refused("header and surplus bytes", "00 00 00 FF", 8, 3, 0),
 ];
 
+/// Examples with bytes of the right number that are not the job's answer.
+pub const NOT_ANSWERS: [(&str, &str); 27] = [
+    // Row 1 marked, no row, row 1 too, and a row that does not exist.
+    ("H1", "40000000 0001 0005"),
+    ("H1", "00000000 0001 0005"),
+    ("H1", "60000000 0001 0005"),
+    ("H1", "30000000 0001 0005"),
+    ("H1", "20000001 0001 0005"),
+    // The constant 2 is wrong at two rows; 5 + 7; 1 + 7; both times 2; nothing but zeros.
+    ("H1", "C0000000 0001 0002"),
+    ("H1", "20000000 0001 000C"),
+    ("H1", "20000000 0008 0005"),
+    ("H1", "20000000 0002 0003"),
+    ("H1", "00000000 0000 0000"),
+    // 1/u the other way round; 3/3u.
+    ("H2", "00000000 0001 0000 0001"),
+    ("H2", "00000000 0000 0003 0003"),
+    // The row at the pole is not right.
+    ("H3", "00000000 0000 0001 0001"),
+    ("H4", "00000000 0000 0001 0001"),
+    // f = 0 with g = 3 and g = 0.
+    ("H5", "20000000 0003 0000"),
+    ("H5", "00000000 0000 0000"),
+    // f = g = u - 2, and u.
+    ("H6", "00000000 0005 0001 0005 0001"),
+    ("H6", "00000000 0000 0001 0000 0001"),
+    // f = g = u - 2 solves the equations; reduced, row 2 is wrong.
+    ("H7", "00000000 0005 0001 0005 0001"),
+    ("H7", "00000000 0001 0000 0001 0000"),
+    ("H7", "20000000 0001 0000 0001 0000"),
+    // The numerators the other way round.
+    ("H8", "00000000 0001 0001 0000 0001 0001 0000"),
+    // Each reading is right at one row alone.
+    ("H9", "60000000 0001 0005"),
+    ("H9", "20000000 0001 0005"),
+    ("H9", "A0000000 0001 0004"),
+    ("H9", "C0000000 0001 0002"),
+    // 1 + 65521.
+    ("H10", "00000000 FFF2 FFF0"),
+];
+
 /// The whole output of the printing program for H1.
 pub const H1_PRINTED: &str = "recovered 1\nwrong 2\ng 1\nf1 5\n";

@@ -2,7 +2,7 @@
 
 use hanthuvelo::hex;
 use hanthuvelo::Report;
-use outside_checks::definition::{answers, candidates, for_each_list};
+use outside_checks::definition::{answers, candidates, for_each_smallest_job};
 use outside_checks::implementations;
 use outside_checks::jobs::Random;
 use outside_checks::layout::{Job, Row};
@@ -63,32 +63,11 @@ fn show(name: &str, counts: &Counts) {
     ));
 }
 
-/// Every list of values at the points 0 to L − 1.
-fn all_values(outputs: usize, df: usize, dg: usize, errors: usize, counts: &mut Counts) {
-    let row_count = df + dg + 2 * errors + 1;
-    for_each_list(row_count * outputs, 7, &mut |values| {
-        let rows = values.chunks(outputs).enumerate();
-        let row = |(point, values): (usize, &[u32])| Row {
-            point: point as u32,
-            values: values.to_vec(),
-        };
-        let job = Job {
-            prime_code: 0,
-            outputs,
-            numerator_bound: df,
-            denominator_bound: dg,
-            error_bound: errors,
-            rows: rows.map(row).collect(),
-        };
-        compare(&job, counts);
-    });
-}
-
 #[test]
 fn all_values_of_the_smallest_jobs() {
     let mut counts = Counts::default();
     // Outputs, df, dg, E.
-    for (outputs, df, dg, errors) in [
+    for bounds in [
         (1, 0, 0, 0),
         (1, 0, 0, 1),
         (1, 0, 1, 0),
@@ -109,7 +88,7 @@ fn all_values_of_the_smallest_jobs() {
         (3, 0, 0, 0),
         (4, 0, 0, 0),
     ] {
-        all_values(outputs, df, dg, errors, &mut counts);
+        for_each_smallest_job(bounds, &mut |job| compare(job, &mut counts));
     }
     show("all values of the smallest jobs", &counts);
 }

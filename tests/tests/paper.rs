@@ -1,16 +1,15 @@
 //! The examples of paper 01 against every implementation.
 
-use hanthuvelo::hex;
-use outside_checks::paper::{Example, EXAMPLES, H1_PRINTED, REFUSALS};
+use hanthuvelo::{hex, Judgement};
+use outside_checks::paper::{Example, EXAMPLES, H1_PRINTED, NOT_ANSWERS, REFUSALS};
 use outside_checks::second;
-use outside_checks::{implementations, Implementation};
+use outside_checks::{implementations, judges, Implementation};
 
 /// Bytes behind the area that the example names, to see that they stay.
 const SURPLUS: usize = 9;
 
 fn try_example(implementation: Implementation, example: &Example, surplus: usize) {
-    let job = hex::bytes(example.job).expect("the paper's job");
-    let answer = hex::bytes(example.answer).expect("the paper's answer");
+    let (job, answer) = (paper_bytes(example.job), paper_bytes(example.answer));
     for filling in [0x00, 0xFF, 0xA5] {
         let mut area = vec![filling; example.area_length + surplus];
         let mut expected = area.clone();
@@ -52,7 +51,7 @@ fn an_empty_job_and_an_empty_area() {
             "{}",
             implementation.name
         );
-        let job = hex::bytes(EXAMPLES[0].job).expect("the paper's job");
+        let job = paper_bytes(EXAMPLES[0].job);
         assert_eq!(
             (implementation.recover)(&job, &mut []).refusal,
             7,
@@ -62,15 +61,64 @@ fn an_empty_job_and_an_empty_area() {
     }
 }
 
+fn paper_bytes(text: &str) -> Vec<u8> {
+    hex::bytes(text).expect("the paper's bytes")
+}
+
+fn example(name: &str) -> &'static Example {
+    let found = EXAMPLES.iter().find(|example| example.name == name);
+    found.expect("an example")
+}
+
+/// The paper's own answers are a yes, and with another number of bytes they are refused.
+#[test]
+fn the_answers_of_the_examples_are_judged() {
+    for judge in judges() {
+        let answered = EXAMPLES.iter().filter(|each| !each.answer.is_empty());
+        for example in answered {
+            let name = format!("{} by {}", example.name, judge.name);
+            let (job, answer) = (paper_bytes(example.job), paper_bytes(example.answer));
+            let judged = (judge.judge)(&job, &answer);
+            assert_eq!(judged, Judgement::judged(true), "{name}");
+            let longer = [&answer[..], &[0]].concat();
+            for other in [&longer, &answer[1..], &answer[4..], &[]] {
+                let judged = (judge.judge)(&job, other);
+                assert_eq!(judged, Judgement::refused(3, 0), "{name}");
+            }
+        }
+        for (name, offered) in NOT_ANSWERS {
+            let job = paper_bytes(example(name).job);
+            let judged = (judge.judge)(&job, &paper_bytes(offered));
+            let name = format!("{name} {offered} by {}", judge.name);
+            assert_eq!(judged, Judgement::judged(false), "{name}");
+        }
+    }
+}
+
+/// Refusals 1 to 6 are the job's, whatever is offered; 7 and 8 do not occur.
+#[test]
+fn the_refusals_of_the_table_are_those_of_a_judgement() {
+    for judge in judges() {
+        for example in REFUSALS.iter().chain([example("H11")]) {
+            let (job, report) = (paper_bytes(example.job), example.report);
+            for length in [0, 7, 8, 9, 254] {
+                let judged = (judge.judge)(&job, &vec![0; length]);
+                let expected = match (report.refusal, length) {
+                    (7 | 8, 8) => Judgement::judged(false),
+                    (7 | 8, _) => Judgement::refused(3, 0),
+                    (number, _) => Judgement::refused(number, report.row),
+                };
+                assert_eq!(judged, expected, "{} by {}", example.name, judge.name);
+            }
+        }
+        let judged = (judge.judge)(&[], &[]);
+        assert_eq!(judged, Judgement::refused(1, 0), "{}", judge.name);
+    }
+}
+
 #[test]
 fn the_printed_text_of_the_second_solver() {
-    let printed = |name: &str| {
-        let example = EXAMPLES
-            .iter()
-            .find(|example| example.name == name)
-            .expect("an example");
-        second::printed(&hex::bytes(example.job).expect("the paper's job"))
-    };
+    let printed = |name: &str| second::printed(&paper_bytes(example(name).job));
     assert_eq!(printed("H1"), H1_PRINTED);
     assert_eq!(printed("H2"), "recovered 0\nwrong\ng 0 1\nf1 1\n");
     assert_eq!(printed("H3"), "recovered 1\nwrong 0\ng 0 1\nf1 1\n");

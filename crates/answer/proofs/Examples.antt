@@ -1,15 +1,13 @@
 -- For a reader: the definitions at some of paper 01's worked examples, and its numbers of bytes.
-use Prim.Native.Nat.{ℕ, _+_, _≤_}
-use mathlib.Core.Path.{_≡_, refl, ap, _∙_}
+use Prim.Native.Nat.{_+_, _≤_}
+use mathlib.Core.Path.{_≡_, refl}
 use mathlib.Core.Bool.{cond}
-use mathlib.Core.List.{List, [], _∷_, _++_}
-use lib.ListN.{length, length-append}
+use mathlib.Core.List.{[], _∷_}
 use lib.Dec.{eqb, lit≤}
 use Rattle.field.specs.declared.Prime.the-variants.{P7}
 use Rattle.format.specs.declared.Bounds.{Bounds}
 use Rattle.format.specs.Bounds.{answerLengthOf, Storable}
-use Rattle.answer.specs.Bytes.{fourBytes, coefficientBytes, outputBytes, answerBytes, numeratorStart, overwritten}
-use Rattle.answer.proofs.Lengths.{length-front, answer-end}
+use Rattle.answer.specs.Bytes.{coefficientBytes, outputBytes, answerBytes, numeratorStart, overwritten}
 
 -- H1: one output, three rows, df 0, dg 0, E 1
 h1 : Bounds
@@ -41,10 +39,3 @@ h8-start = refl
 h8-storable : Storable h8
 unfolding h8
 h8-storable = record { few = lit≤ tt; denominator-low = lit≤ tt; numerators-low = λ i. lit≤ tt }
-
--- the bytes are as many as paper 01's formula says
-length-answer : (b : Bounds) (word : ℕ) (g : List ℕ) (f : ℕ → List ℕ) → length (answerBytes b word g f) ≡ answerLengthOf b
-length-answer b word g f =
-    let outputs = outputBytes b f (b .outputs) in
-    length-append (fourBytes word ++ coefficientBytes g (b .dg + 1)) outputs
-    ∙ ap (λ k. k + length outputs) (length-front word g (b .dg + 1)) ∙ answer-end b f

@@ -7,7 +7,7 @@ use native.Mathlib.Omega.{arith}
 use lib.ListN.{length, getD, length-append}
 use Rattle.format.specs.declared.Bounds.{Bounds}
 use Rattle.format.specs.Bounds.{numeratorBoundOf, answerLengthOf}
-use Rattle.answer.specs.Bytes.{twoBytes, fourBytes, coefficientBytes, outputBytes, numeratorStart}
+use Rattle.answer.specs.Bytes.{twoBytes, fourBytes, coefficientBytes, outputBytes, answerBytes, numeratorStart}
 
 pub length-coefficients : (a : List ℕ) (count : ℕ) → length (coefficientBytes a count) ≡ 2 * count
 unfolding coefficientBytes
@@ -53,3 +53,10 @@ numerator-start b f (suc i) = omega (arith, numerator-start b f i, length-output
 pub length-front : (word : ℕ) (g : List ℕ) (count : ℕ) → length (fourBytes word ++ coefficientBytes g count) ≡ 4 + 2 * count
 length-front word g count =
     length-append (fourBytes word) (coefficientBytes g count) ∙ ap (λ k. 4 + k) (length-coefficients g count)
+
+-- the bytes are as many as paper 01's formula says
+pub length-answer : (b : Bounds) (word : ℕ) (g : List ℕ) (f : ℕ → List ℕ) → length (answerBytes b word g f) ≡ answerLengthOf b
+length-answer b word g f =
+    let outputs = outputBytes b f (b .outputs) in
+    length-append (fourBytes word ++ coefficientBytes g (b .dg + 1)) outputs
+    ∙ ap (λ k. k + length outputs) (length-front word g (b .dg + 1)) ∙ answer-end b f

@@ -9,13 +9,19 @@ use lib.ListN.{length, getD, drop, length-append, List·getD-append}
 use lib.Seq.{getD-append-add}
 use Rattle.format.specs.Numbers.{numberFrom}
 use Rattle.format.specs.declared.Bounds.{Bounds}
-use Rattle.format.specs.Bounds.{numeratorBoundOf}
+use Rattle.format.specs.Bounds.{primeOf, numeratorBoundOf}
+use Rattle.field.proofs.Moduli.{modulus-small}
+use Rattle.poly.specs.Coefficients.{Bounded}
 use Rattle.answer.specs.Bytes.{twoBytes, fourBytes, coefficientBytes, outputBytes, answerBytes, numeratorStart, overwritten}
 use Rattle.answer.proofs.Lengths.{length-coefficients, output-within, length-front, numerator-start}
 
 -- numbers of 16 bits throughout
 abbrev pub SixteenBits : List ℕ → Type 0
 SixteenBits a = (k : ℕ) → getD a k 0 < 65536
+
+-- as polynomials modulo one of the primes have
+pub residues-short : (b : Bounds) {n : ℕ} {a : List ℕ} → Bounded (primeOf b) n a → SixteenBits a
+residues-short b h k = let l = h .residues k in let m = modulus-small (b .prime) in omega arith
 
 -- a number in the first of two joined lists
 number-before : (x y : List ℕ) (k : ℕ) → k + 1 < length x → numberFrom (x ++ y) k ≡ numberFrom x k

@@ -1,12 +1,14 @@
 // The library's exported functions, for callers in C and Rust. include/hanthuvelo.h declares them.
 ghost use mathlib.Core.Path.{_≡_};
 ghost use Rattle.format.specs.Outcomes.{writingReportOf};
+ghost use Rattle.offered_answer.specs.Judgements.{Judged};
 ghost use Rattle.reciprocal.specs.Reports.{codedReciprocal, reciprocalReportOf};
 ghost use Rattle.recovery.specs.Recovery.{Settled};
 ghost use Rattle.trial.specs.Trial.{Trial};
 use format::Report;
 use format::Writing;
 use format::WritingReport;
+use offered_answer::JudgementReport;
 use reciprocal::ReciprocalReport;
 
 // Any job, any area: the caller owes nothing. The report is in the paper's numbers.
@@ -61,4 +63,13 @@ pub extern "C" fn hanthuvelo_reciprocal(prime_code: u32, number: u32) -> Recipro
 {
     let answer = reciprocal::coded_reciprocal(prime_code, number);
     reciprocal::reported(answer)
+}
+
+// Any job and any offered answer: the caller owes nothing.
+#[no_mangle]
+pub extern "C" fn hanthuvelo_judge(job: &[u8], answer: &[u8]) -> JudgementReport
+    ensures { λ r. ⌜ Judged (now (job .entry)) (now (answer .entry)) r ⌝ }
+{
+    let judgement = offered_answer::judge_answer(job, answer);
+    offered_answer::reported(judgement)
 }

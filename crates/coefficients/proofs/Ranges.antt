@@ -1,22 +1,25 @@
 -- The polynomials of coefficients below p: as many coefficients as the bounds allow, each below p.
-use Prim.Native.Nat.{ℕ, _+_, _-_, _*_, _/_, _≤_, _<_}
-use mathlib.Core.Path.{_≡_, _∙_}
-use mathlib.Core.Bool.{cond}
+use Prim.Native.Nat.{ℕ, zero, suc, _+_, _-_, _*_, _/_, _≤_, _<_}
+use mathlib.Core.Path.{_≡_, ap, _∙_}
+use mathlib.Core.Bool.{cond, false}
 use mathlib.Core.List.{List}
 use mathlib.Core.Logic.{_⊎_, inl, inr}
 use native.Mathlib.Omega.{arith}
-use borrow.Author.Tests.{lt-ltb, le-ltb}
-use lib.Dec.{ltb}
+use borrow.Author.Tests.{lt-ltb, le-ltb, leb-false, lt-leb}
+use lib.Dec.{ltb, leb}
 use lib.ListN.{length}
 use Rattle.lists.proofs.Order.{lt-or-ge}
 use Rattle.lists.proofs.Tabulated.{length-tabulate, at-tabulate-all}
 use Rattle.format.specs.declared.Bounds.{Bounds}
 use Rattle.format.specs.Bounds.{primeOf, numeratorBoundOf, Storable}
 use Rattle.format.specs.Numbers.{numberFrom}
-use Rattle.poly.specs.Coefficients.{at, Bounded}
+use Rattle.field.proofs.Moduli.{modulus-positive}
+use Rattle.row_search.specs.Search.{isFound}
+use Rattle.row_search.proofs.FirstBelow.{any-passes, none-below}
+use Rattle.poly.specs.Coefficients.{at, Bounded, Stored}
 use Rattle.answer.specs.Bytes.{numeratorStart}
-use Rattle.coefficients.specs.Coefficients.{coefficientLengthOf, polynomialFrom, denominatorOf, numeratorOf}
-use Rattle.coefficients.proofs.Places.{start-is, ends-within}
+use Rattle.coefficients.specs.Coefficients.{coefficientLengthOf, polynomialFrom, denominatorOf, numeratorOf, anyTooLarge}
+use Rattle.coefficients.proofs.Places.{start-is, start-next, ends-within}
 
 pub polynomial-size : (s : List ℕ) (from count : ℕ) → length (polynomialFrom s from count) ≡ 32
 unfolding polynomialFrom
@@ -41,21 +44,61 @@ module _ (s : List ℕ) (from count : ℕ) (fits : count ≤ 32) where
       by k (inl l) = rw (coefficient-at k l) (low k l)
       by k (inr l) = rw (coefficient-above k l) positive
 
-module _ (b : Bounds) (storable : Storable b) (s : List ℕ) (size : length s ≡ coefficientLengthOf b) (positive : 0 < primeOf b)
-    (low : (k : ℕ) → k < length s / 2 → numberFrom s (2 * k) < primeOf b) where
-  -- coefficients from number m on
-  low-from : (m from count : ℕ) → from ≡ 2 * m → from + 2 * count ≤ length s → (k : ℕ) → k < count → numberFrom s (from + 2 * k) < primeOf b
-  low-from m from count e fits k l =
-      let place : from + 2 * k ≡ 2 * (m + k) = omega arith in
-      rw place (low (m + k) (omega arith))
+-- no coefficient is p or more: so says the test of each number
+pub not-large : (b : Bounds) (s : List ℕ) → anyTooLarge b s ≡ false → (k : ℕ) → k < length s / 2 → numberFrom s (2 * k) < primeOf b
+not-large b s e k l = leb-false _ _ (any-passes (λ j. leb (primeOf b) (numberFrom s (2 * j))) (length s / 2) e k l)
 
-  pub denominator-bounded : Bounded (primeOf b) (b .dg + 1) (denominatorOf b s)
-  denominator-bounded =
-      polynomial-bounded s 0 (b .dg + 1) (let l = storable .denominator-low in omega arith) positive (low-from 0 0 (b .dg + 1) (omega arith) (omega arith))
+module _ (b : Bounds) (storable : Storable b) (s : List ℕ) (size : length s ≡ coefficientLengthOf b) where
+  denominator-fits : b .dg + 1 ≤ 32
+  denominator-fits = let l = storable .denominator-low in omega arith
 
-  pub numerator-bounded : (i : ℕ) → i < b .outputs → Bounded (primeOf b) (numeratorBoundOf b i + 1) (numeratorOf b s i)
-  numerator-bounded i l =
-      let start = start-is b i in
-      let m = (b .dg + 1) + i * (b .df + 1) in
-      polynomial-bounded s (numeratorStart b i - 4) (numeratorBoundOf b i + 1) (let n = storable .numerators-low i in omega arith) positive
-      (low-from m (numeratorStart b i - 4) (numeratorBoundOf b i + 1) (omega arith) (omega (arith, ends-within b i l)))
+  numerator-fits : (i : ℕ) → numeratorBoundOf b i + 1 ≤ 32
+  numerator-fits i = let n = storable .numerators-low i in omega arith
+
+  module _ (low : (k : ℕ) → k < length s / 2 → numberFrom s (2 * k) < primeOf b) where
+    -- coefficients from number m on
+    low-from : (m from count : ℕ) → from ≡ 2 * m → from + 2 * count ≤ length s → (k : ℕ) → k < count → numberFrom s (from + 2 * k) < primeOf b
+    low-from m from count e fits k l =
+        let place : from + 2 * k ≡ 2 * (m + k) = omega arith in
+        rw place (low (m + k) (omega arith))
+
+    pub denominator-bounded : Bounded (primeOf b) (b .dg + 1) (denominatorOf b s)
+    denominator-bounded =
+        polynomial-bounded s 0 (b .dg + 1) denominator-fits (modulus-positive (b .prime)) (low-from 0 0 (b .dg + 1) (omega arith) (omega arith))
+
+    pub numerator-bounded : (i : ℕ) → i < b .outputs → Bounded (primeOf b) (numeratorBoundOf b i + 1) (numeratorOf b s i)
+    numerator-bounded i l =
+        let start = start-is b i in
+        let m = (b .dg + 1) + i * (b .df + 1) in
+        polynomial-bounded s (numeratorStart b i - 4) (numeratorBoundOf b i + 1) (numerator-fits i) (modulus-positive (b .prime))
+        (low-from m (numeratorStart b i - 4) (numeratorBoundOf b i + 1) (omega arith) (omega (arith, ends-within b i l)))
+
+    -- as arrays of 32 coefficients
+    pub denominator-stored : Stored (primeOf b) (denominatorOf b s)
+    denominator-stored = record { size = polynomial-size s _ _; below = denominator-bounded .residues }
+
+    pub numerator-stored : (i : ℕ) → i < b .outputs → Stored (primeOf b) (numeratorOf b s i)
+    numerator-stored i l = record { size = polynomial-size s _ _; below = numerator-bounded i l .residues }
+
+  -- and back: where the polynomials' coefficients are below p, no number is p or more
+  module _ (low-g : (k : ℕ) → at (denominatorOf b s) k < primeOf b) (low-f : (i : ℕ) → i < b .outputs → (k : ℕ) → at (numeratorOf b s i) k < primeOf b) where
+    -- the numbers before output i
+    low-before : (i : ℕ) → i ≤ b .outputs → (k : ℕ) → 4 + 2 * k < numeratorStart b i → numberFrom s (2 * k) < primeOf b
+    low-before zero n k l =
+        let place : 2 * k ≡ 0 + 2 * k = omega arith in
+        rw (place, ← coefficient-at s 0 (b .dg + 1) denominator-fits k (omega (arith, start-is b 0))) (low-g k)
+    low-before (suc i) n k l = by (low-before i (omega arith) k) (lt-or-ge (4 + 2 * k) (numeratorStart b i))
+      where
+        by : (4 + 2 * k < numeratorStart b i → numberFrom s (2 * k) < primeOf b) → (4 + 2 * k < numeratorStart b i) ⊎ (numeratorStart b i ≤ 4 + 2 * k)
+            → numberFrom s (2 * k) < primeOf b
+        by earlier (inl before) = earlier before
+        by earlier (inr here) =
+            let m = (b .dg + 1) + i * (b .df + 1) in
+            let place : 2 * k ≡ numeratorStart b i - 4 + 2 * (k - m) = omega (arith, start-is b i) in
+            let number = coefficient-at s (numeratorStart b i - 4) (numeratorBoundOf b i + 1) (numerator-fits i) (k - m) (omega (arith, start-is b i, start-next b i)) in
+            rw (place, ← number) (low-f i (omega arith) (k - m))
+
+    pub none-large : anyTooLarge b s ≡ false
+    none-large =
+        ap isFound (none-below (λ k. leb (primeOf b) (numberFrom s (2 * k))) (length s / 2)
+        (λ k l. lt-leb _ _ (low-before (b .outputs) (omega arith) k (omega (arith, start-is b (b .outputs))))))

@@ -2,47 +2,36 @@
 use mathlib.Core.Path.{_≡_, sym, _∙_, ap}
 use mathlib.Core.Logic.{_⊎_, inl, inr}
 use mathlib.Core.List.{List}
-use Prim.Native.Nat.{ℕ, _+_, _*_, _≤_, _<_}
+use Prim.Native.Nat.{ℕ, _≤_, _<_}
 use native.Mathlib.Decide.{decLe}
 use native.Mathlib.Omega.{arith}
 use lib.ListN.{length}
-use Rattle.format.specs.Numbers.{numberFrom, wordFrom}
-use Rattle.field.proofs.Moduli.{modulus-small}
+use Rattle.format.specs.Numbers.{wordFrom}
 use Rattle.format.specs.declared.Report.{Report}
-use Rattle.format.specs.Bounds.{primeOf, numeratorBoundOf}
-use Rattle.poly.specs.Coefficients.{at, Bounded}
+use Rattle.format.specs.Bounds.{numeratorBoundOf}
+use Rattle.poly.specs.Coefficients.{at}
 use Rattle.header.specs.Header.{boundsOf}
-use Rattle.job.specs.Refusals.{outcomeOf}
 use Rattle.job.proofs.Facts.{well-formed-facts}
-use Rattle.job.proofs.Numbers.{Early, outcome-early}
-use Rattle.answer.specs.Bytes.{numeratorStart, overwritten}
-use Rattle.word.proofs.Words.{word-lt, word-same}
-use Rattle.answer.proofs.Reading.{SixteenBits, read-word, read-denominator, read-numerator}
+use Rattle.answer.specs.Bytes.{overwritten}
+use Rattle.word.proofs.Words.{word-same}
 use Rattle.problem.specs.Reduced.{Same}
-use Rattle.problem.specs.Answers.{wrongAt, Within, wordFor, recoveredBytes}
+use Rattle.problem.specs.Answers.{Within, wordFor, recoveredBytes}
+use Rattle.problem.proofs.Written.{word-written, denominator-written, numerator-written}
 use Rattle.problem.proofs.Same.{wrong-at-same, wrong-count-same, answer-same}
+use Rattle.recovery.proofs.Settling.{answered-if-zero}
 use Rattle.recovery.specs.Recovery.{RefusedEarly, Answered, RefusedUnsolvable, Settled}
 use Rattle.enlargement.specs.Enlargement.{Lists, AnsweredWith, Named, AnsweredExactly}
 
-module _ (s : List ℕ) {f : ℕ → List ℕ} {g : List ℕ} (within : Within (boundsOf s) f g) where
-  sixteen-bits : {n : ℕ} {a : List ℕ} → Bounded (primeOf (boundsOf s)) n a → SixteenBits a
-  sixteen-bits h k = let l = h .residues k in let m = modulus-small (boundsOf s .prime) in omega arith
-
-  -- the area lists the answer that was written
-  pub lists-written : (area after : List ℕ) → after ≡ overwritten (recoveredBytes s f g) area → Lists s after f g
-  lists-written area after e = record {
-    denominator = λ k l. ap (λ t. numberFrom t (4 + 2 * k)) e ∙ read-denominator (boundsOf s) (wordFor s f g) g f area (sixteen-bits (within .denominator)) k l;
-    numerators = λ i k li l. ap (λ t. numberFrom t (numeratorStart (boundsOf s) i + 2 * k)) e
-        ∙ read-numerator (boundsOf s) (wordFor s f g) g f area (λ j lj. sixteen-bits (within .numerators j lj)) i k li l;
-    meets = record {
-      denominator = λ k l. within .denominator .within k (omega arith);
-      numerators = λ i k li l. within .numerators i li .within k (omega arith);
-    };
-  }
-
-  pub word-written : boundsOf s .rows ≤ 32 → (area after : List ℕ) → after ≡ overwritten (recoveredBytes s f g) area → wordFrom after ≡ wordFor s f g
-  word-written few area after e =
-      ap wordFrom e ∙ read-word (boundsOf s) (wordFor s f g) g f area (word-lt (boundsOf s .rows) (wrongAt s f g) few)
+-- the area lists the answer that was written
+lists-written : (s : List ℕ) {f : ℕ → List ℕ} {g : List ℕ} → Within (boundsOf s) f g → (area after : List ℕ) → after ≡ overwritten (recoveredBytes s f g) area → Lists s after f g
+lists-written s {f} {g} within area after e = record {
+  denominator = denominator-written s f g area after e within;
+  numerators = numerator-written s f g area after e within;
+  meets = record {
+    denominator = λ k l. within .denominator .within k (omega arith);
+    numerators = λ i k li l. within .numerators i li .within k (omega arith);
+  };
+}
 
 -- what one area lists is one fraction
 same-lists : (s after : List ℕ) {f f' : ℕ → List ℕ} {g g' : List ℕ} → Lists s after f g → Lists s after f' g' → Same (boundsOf s .outputs) f g f' g'
@@ -74,21 +63,16 @@ module _ (s area : List ℕ) (r : Report) (after : List ℕ) where
   -- a call that answered the job, and the fraction that it was answered with
   pub answered-call : Settled s area r after → {f : ℕ → List ℕ} {g : List ℕ} {k : ℕ} → AnsweredWith s r after f g k
       → (A : Answered s area r after) × Same (boundsOf s .outputs) (A .f) (A .g) f g
-  answered-call S {f} {g} {k} w = by (S .cases) (outcome-early s (length area))
-    where
-      by : RefusedEarly s area r after ⊎ (Answered s area r after ⊎ RefusedUnsolvable s area r after) → Early (outcomeOf s (length area))
-          → (A : Answered s area r after) × Same (boundsOf s .outputs) (A .f) (A .g) f g
-      by (inl early) (inl accepted) = absurd (early .malformed accepted)
-      by (inl early) (inr number) = absurd (let same = ap (λ t. t .refusal) (early .report) in let z = w .not-refused in omega (arith, number .0))
-      by (inr (inr none)) o = absurd (let same = ap (λ t. t .refusal) (none .report) in let z = w .not-refused in omega arith)
-      by (inr (inl A)) o = (A, same-lists s after (lists-written s (A .answer .within) area after (A .written)) (w .lists))
+  answered-call S w =
+      let A = answered-if-zero s area S (w .not-refused) in
+      (A, same-lists s after (lists-written s (A .answer .within) area after (A .written)) (w .lists))
 
   -- the word that it wrote is that of f/g
   pub answered-word : Settled s area r after → {f : ℕ → List ℕ} {g : List ℕ} {k : ℕ} → AnsweredWith s r after f g k → wordFrom after ≡ wordFor s f g
   answered-word S w =
       let c = answered-call S w in
       let W = well-formed-facts s (length area) (c .0 .well-formed) in
-      word-written s (c .0 .answer .within) (let n = W .fields .rows-most in omega arith) area after (c .0 .written)
+      word-written s (c .0 .f) (c .0 .g) area after (c .0 .written) (let n = W .fields .rows-most in omega arith)
       ∙ word-same (boundsOf s .rows) _ _ (λ j l. wrong-at-same s (c .1) j)
 
   pub answered-named : Settled s area r after → {f : ℕ → List ℕ} {g : List ℕ} {k : ℕ} → AnsweredWith s r after f g k → Named s area f g k

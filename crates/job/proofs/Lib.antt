@@ -4,4 +4,5 @@ pub mod Pigeonhole
 pub mod Facts
 pub mod Laws
 pub mod Examples
+pub mod Forms
 pub mod Numbers

@@ -1,45 +1,43 @@
--- The tests before 8 answer with Accepted, or with a refusal numbered 1 to 7.
-use mathlib.Core.Path.{_≡_, refl}
+-- The tests before 8 answer with Accepted, or with a refusal numbered 1 to 7; where the area is as long as the answer, 1 to 6.
+use mathlib.Core.Path.{_≡_, ap, _∙_}
 use mathlib.Core.Logic.{_⊎_, inl, inr}
+use mathlib.Core.Bool.{Bool, true, false}
 use mathlib.Core.List.{List}
 use Prim.Native.Nat.{ℕ, _<_}
+use native.Mathlib.Nat.{le-refl}
 use native.Mathlib.Omega.{arith}
-use Rattle.format.specs.declared.Reason.{Reason}
-use Rattle.format.specs.declared.Reason.the-variants.{TooShort, SpareBit, ByteCount, TooFewRows, OutOfRange, RepeatedPoint, AreaTooShort}
+use Rattle.format.specs.Bounds.{answerLengthOf}
+use Rattle.format.specs.declared.Reason.the-variants.{AreaTooShort}
 use Rattle.format.specs.declared.Outcome.{Outcome}
 use Rattle.format.specs.declared.Outcome.the-variants.{Accepted}
-use Rattle.format.specs.Outcomes.{numberOf, reportOf}
-use Rattle.row_search.specs.declared.Found.{Found}
-use Rattle.row_search.specs.declared.Found.the-variants.{At, Nothing}
-use Rattle.row_search.specs.Search.{ifHolds, firstBelow}
+use Rattle.format.specs.Outcomes.{reportOf}
+use Rattle.row_search.specs.Search.{ifHolds}
 use Rattle.header.specs.Header.{boundsOf}
-use Rattle.job.specs.Refusals.{
-  tooShort,
-  spareBitIsOne,
-  byteCountDiffers,
-  tooFewRows,
-  outOfRange,
-  repeatedPoint,
-  areaTooShort,
-  refuse,
-  outcomeOfRows,
-  outcomeOf,
-}
+use Rattle.job.specs.Refusals.{areaTooShort, refuse, outcomeOf}
+use Rattle.job.proofs.Forms.{ByForm, by-form, long-enough}
+
+-- Accepted, or a refusal numbered below m
+abbrev pub EarlyBelow : ℕ → Outcome → Type 0
+EarlyBelow m o = (o ≡ Accepted) ⊎ ((0 < reportOf o .refusal) × (reportOf o .refusal < m))
 
 abbrev pub Early : Outcome → Type 0
-Early o = (o ≡ Accepted) ⊎ ((0 < reportOf o .refusal) × (reportOf o .refusal < 8))
-
-refuse-early : (reason : Reason) (f : Found) {later : Outcome} → (0 < numberOf reason) × (numberOf reason < 8) → Early later → Early (refuse reason f later)
-refuse-early reason (At row) n e = inr n
-refuse-early reason Nothing n e = e
+Early o = EarlyBelow 8 o
 
 pub outcome-early : (s : List ℕ) (area : ℕ) → Early (outcomeOf s area)
-unfolding outcomeOf outcomeOfRows
-outcome-early s area =
-    refuse-early TooShort (ifHolds (tooShort s) 0) (omega arith, omega arith)
-    (refuse-early SpareBit (ifHolds (spareBitIsOne s) 0) (omega arith, omega arith)
-    (refuse-early ByteCount (ifHolds (byteCountDiffers s) 0) (omega arith, omega arith)
-    (refuse-early TooFewRows (ifHolds (tooFewRows s) 0) (omega arith, omega arith)
-    (refuse-early OutOfRange (firstBelow (boundsOf s .rows) (outOfRange s)) (omega arith, omega arith)
-    (refuse-early RepeatedPoint (firstBelow (boundsOf s .rows) (repeatedPoint s)) (omega arith, omega arith)
-    (refuse-early AreaTooShort (ifHolds (areaTooShort s area) 0) (omega arith, omega arith) (inl refl)))))))
+outcome-early s area = by (by-form s)
+  where
+    last : (short : Bool) → outcomeOf s area ≡ refuse AreaTooShort (ifHolds short 0) Accepted → Early (outcomeOf s area)
+    last true e = inr (let n = ap (λ o. reportOf o .refusal) e in omega arith)
+    last false e = inl e
+
+    by : ByForm s → Early (outcomeOf s area)
+    by (inl refused) = inr (let n = ap (λ o. reportOf o .refusal) (refused .3 area) in omega (arith, refused .2 .0, refused .2 .1))
+    by (inr passed) = last (areaTooShort s area) (passed area)
+
+pub form-early : (s : List ℕ) → EarlyBelow 7 (outcomeOf s (answerLengthOf (boundsOf s)))
+form-early s = by (by-form s)
+  where
+    by : ByForm s → EarlyBelow 7 (outcomeOf s (answerLengthOf (boundsOf s)))
+    by (inl refused) =
+        inr (let n = ap (λ o. reportOf o .refusal) (refused .3 (answerLengthOf (boundsOf s))) in omega (arith, refused .2 .0, refused .2 .1))
+    by (inr passed) = inl (passed (answerLengthOf (boundsOf s)) ∙ long-enough s (answerLengthOf (boundsOf s)) (le-refl _))

@@ -1,6 +1,7 @@
 -- Truth values.
-use mathlib.Core.Path.{_≡_, refl}
+use mathlib.Core.Path.{_≡_, refl, sym}
 use mathlib.Core.Bool.{Bool, true, false, true≢false}
+use mathlib.Core.Logic.{_↔_}
 
 -- Anything follows from a contradiction. Where the facts in scope make two constructors equal, `cc` proves this one: `clash cc`.
 pub clash : {A : Type 0} → true ≡ false → A
@@ -10,3 +11,7 @@ clash e = absurd (true≢false e)
 pub never-true : (b : Bool) → (b ≡ true → ⊥) → b ≡ false
 never-true true n = absurd (n refl)
 never-true false n = refl
+
+-- the answer false, where A does not hold
+pub refuted : {A : Type 0} → (A → ⊥) → (false ≡ true) ↔ A
+refuted none = ((λ e. clash (sym e)), λ a. absurd (none a))

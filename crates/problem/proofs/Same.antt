@@ -11,7 +11,7 @@ use Rattle.rows.specs.Rows.{jobPoint}
 use Rattle.word.proofs.Words.{word-same}
 use Rattle.word.proofs.Counts.{count-same}
 use Rattle.answer.specs.Bytes.{twoBytes, fourBytes, coefficientBytes, outputBytes, answerBytes}
-use Rattle.problem.specs.Reduced.{Divides, Same}
+use Rattle.problem.specs.Reduced.{Divides, Reduced, Same}
 use Rattle.problem.specs.Answers.{wrongAt, wrongCount, Answer, recoveredBytes}
 use Rattle.problem.proofs.Rows.{wrong-same}
 
@@ -20,6 +20,23 @@ bounded-same {p} e h = record { residues = λ k. subst (λ t. t < p) (e k) (h .r
 
 divides-same : (p : ℕ) (d a b : List ℕ) → ((k : ℕ) → at a k ≡ at b k) → Divides p d b → Divides p d a
 divides-same p d a b e D = (D .0, λ k. D .1 k ∙ ap (λ t. t % p) (sym (e k)))
+
+pub same-sym : {n : ℕ} {f f' : ℕ → List ℕ} {g g' : List ℕ} → Same n f g f' g' → Same n f' g' f g
+same-sym h = record { denominator = λ k. sym (h .denominator k); numerators = λ i l k. sym (h .numerators i l k) }
+
+pub reduced-same : {p n : ℕ} {f f' : ℕ → List ℕ} {g g' : List ℕ} → Same n f g f' g' → Reduced p n f g → Reduced p n f' g'
+reduced-same {p} {f = f} {f' = f'} {g = g} {g' = g'} h r = record {
+  monic = record {
+    degree = r .monic .degree;
+    leading = sym (h .denominator _) ∙ r .monic .leading;
+    above = λ k l. sym (h .denominator k) ∙ r .monic .above k l;
+  };
+  coprime = λ d dg df. r .coprime d (divides-same p d g g' (h .denominator) dg) (λ i l. divides-same p d (f i) (f' i) (h .numerators i l) (df i l));
+}
+
+-- of the numerators the first n count
+pub reduced-cong : {p n : ℕ} {f f' : ℕ → List ℕ} {g : List ℕ} → ((i : ℕ) → i < n → f i ≡ f' i) → Reduced p n f g → Reduced p n f' g
+reduced-cong e = reduced-same (record { denominator = λ k. refl; numerators = λ i l k. ap (λ t. at t k) (e i l) })
 
 module _ (s : List ℕ) {f f' : ℕ → List ℕ} {g g' : List ℕ} (h : Same (boundsOf s .outputs) f g f' g') where
   -- the same rows are wrong
@@ -35,14 +52,7 @@ module _ (s : List ℕ) {f f' : ℕ → List ℕ} {g g' : List ℕ} (h : Same (b
       numerators = λ i l. bounded-same (h .numerators i l) (a .within .numerators i l);
       denominator = bounded-same (h .denominator) (a .within .denominator);
     };
-    reduced = record {
-      monic = record {
-        degree = a .reduced .monic .degree;
-        leading = sym (h .denominator _) ∙ a .reduced .monic .leading;
-        above = λ k l. sym (h .denominator k) ∙ a .reduced .monic .above k l;
-      };
-      coprime = λ d dg df. a .reduced .coprime d (divides-same (primeOf (boundsOf s)) d g g' (h .denominator) dg) (λ i l. divides-same (primeOf (boundsOf s)) d (f i) (f' i) (h .numerators i l) (df i l));
-    };
+    reduced = reduced-same h (a .reduced);
     few-wrong = (let e = wrong-count-same in let m = a .few-wrong in omega arith);
   }
 

@@ -29,7 +29,7 @@ use Rattle.problem.proofs.Rows.{right-all, all-right}
 use Rattle.problem.specs.Reduced.{Reduced}
 use Rattle.problem.specs.Answers.{wrongAt, Within, Answer}
 use Rattle.problem_meaning.proofs.Tables.{P, R, F, poly, evaluation, problem, Usable}
-use Rattle.problem_meaning.proofs.Coprime.{coprime-means, means-coprime}
+use Rattle.reduced_meaning.proofs.Coprime.{coprime-means, means-coprime}
 
 module _ (s : List ℕ) {area : ℕ} (W : WellFormedFacts s area) where
   abbrev p : ℕ

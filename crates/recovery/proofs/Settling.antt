@@ -3,22 +3,21 @@ use mathlib.Core.Path.{_≡_, refl, sym, _∙_, ap, ap₂, subst}
 use mathlib.Core.Logic.{_⊎_, inl, inr, _↔_}
 use mathlib.Core.Bool.{Bool, true, false}
 use mathlib.Core.List.{List}
-use Prim.Native.Nat.{ℕ, _+_, _*_, _≤_, _<_}
+use Prim.Native.Nat.{ℕ, _≤_, _<_}
 use native.Mathlib.Decide.{decLt}
 use native.Mathlib.Omega.{arith}
-use lib.ListN.{length, getD}
+use lib.ListN.{length}
 use Rattle.lists.proofs.Truth.{clash}
 use Rattle.format.specs.declared.Outcome.the-variants.{Accepted}
 use Rattle.format.specs.declared.Report.{Report}
 use Rattle.format.specs.Outcomes.{refusedReport, recoveredReport, reportOf}
-use Rattle.format.specs.Bounds.{answerLengthOf, primeOf}
+use Rattle.format.specs.Bounds.{answerLengthOf}
 use Rattle.poly.specs.Vectors.{coefficientsAt}
 use Rattle.header.specs.Header.{boundsOf}
-use Rattle.rows.specs.Rows.{jobPoint, jobPoints, jobValues}
+use Rattle.rows.specs.Rows.{jobPoints, jobValues}
 use Rattle.job.specs.declared.reading.Reading.{Reading}
 use Rattle.job.specs.Refusals.{outcomeOf, WellFormed}
 use Rattle.job.specs.Reading.{readingOf}
-use Rattle.rows.proofs.Entries.{points-at, values-at}
 use Rattle.job.proofs.Facts.{WellFormedFacts, well-formed-facts}
 use Rattle.job.proofs.Numbers.{Early, outcome-early}
 use Rattle.job.proofs.Laws.{reading-outcome}
@@ -26,10 +25,8 @@ use Rattle.word.specs.Word.{wrongCountOf}
 use Rattle.answer.specs.Bytes.{answerBytes, overwritten}
 use Rattle.word.proofs.Words.{word-same}
 use Rattle.word.proofs.Marks.{count-of-word}
-use Rattle.judge.specs.Rows.{wrongRowAt}
-use Rattle.problem.specs.Rows.{wrongRow}
+use Rattle.judge.proofs.JobRows.{same-wrong}
 use Rattle.problem.specs.Answers.{wrongAt, wrongCount, Answer, Unsolvable, wordFor}
-use Rattle.problem.proofs.Rows.{wrong-same}
 use Rattle.problem_meaning.proofs.OnlyOne.{at-most-one}
 use Rattle.solver.specs.declared.Solution.{Solution}
 use Rattle.recovery.specs.Recovery.{RefusedEarly, Answered, RefusedUnsolvable, Settled}
@@ -53,6 +50,16 @@ module _ (s area : List ℕ) where
       by (inr (inl A)) = ((λ n. absurd (let same = ap (λ t. t .refusal) (A .report) in omega arith)), λ u. absurd (u .1 _ _ (A .answer)))
       by (inr (inr U)) = ((λ n. (U .well-formed, U .none)), λ u. ap (λ t. t .refusal) (U .report))
 
+  -- a call that reports no refusal has answered
+  pub answered-if-zero : {r : Report} {after : List ℕ} → Settled s area r after → r .refusal ≡ 0 → Answered s area r after
+  answered-if-zero {r} {after} S zero = by (S .cases) (outcome-early s (length area))
+    where
+      by : RefusedEarly s area r after ⊎ (Answered s area r after ⊎ RefusedUnsolvable s area r after) → Early (outcomeOf s (length area)) → Answered s area r after
+      by (inl e) (inl accepted) = absurd (e .malformed accepted)
+      by (inl e) (inr number) = absurd (let same = ap (λ t. t .refusal) (e .report) in omega (arith, number .0))
+      by (inr (inl A)) o = A
+      by (inr (inr U)) o = absurd (let same = ap (λ t. t .refusal) (U .report) in omega arith)
+
   pub outcome-read : (r : Reading) → r ≡ readingOf s (length area) → r .outcome ≡ outcomeOf s (length area)
   outcome-read r e = ap (λ t. t .outcome) e ∙ reading-outcome s (length area)
 
@@ -70,15 +77,9 @@ module _ (s area : List ℕ) where
     abbrev g : List ℕ
     g = denominator s W
 
-    -- a row of the arrays is wrong exactly if that row of the job is
-    same-wrong : (r : ℕ) → r < boundsOf s .rows → wrongRowAt (boundsOf s) (jobPoints s) (jobValues s) f g r ≡ wrongAt s f g r
-    same-wrong r l =
-        ap (λ x. wrongRow (primeOf (boundsOf s)) (boundsOf s .outputs) x (λ i. getD (jobValues s) (r * 4 + i) 0) f g) (points-at s r l)
-        ∙ wrong-same (primeOf (boundsOf s)) (jobPoint s r) (boundsOf s .outputs) f f g g (λ i li. values-at s r i l li) (λ i li k. refl) (λ k. refl)
-
     word-means : wordBy (boundsOf s) (jobPoints s) (jobValues s) (last s W) ≡ wordFor s f g
     unfolding wordBy
-    word-means = word-same _ _ _ same-wrong
+    word-means = word-same _ _ _ (same-wrong s f g)
 
     count-means : wrongCountOf (wordBy (boundsOf s) (jobPoints s) (jobValues s) (last s W)) ≡ wrongCount s f g
     count-means = ap wrongCountOf word-means ∙ count-of-word (boundsOf s .rows) (wrongAt s f g) (let n = W .fields .rows-most in omega arith)

@@ -16,7 +16,7 @@ use Rattle.poly.specs.Coefficients.{Bounded, Stored}
 use Rattle.poly.specs.Operations.{lengthOf}
 use Rattle.poly.proofs.Lists.{bounded-mono}
 use Rattle.poly_meaning.proofs.Series.{series}
-use Rattle.problem_meaning.proofs.Lists.{list-polynomial}
+use Rattle.reduced_meaning.proofs.Lists.{list-polynomial}
 use Rattle.division.proofs.Leading.{stored-bounded, length-stored}
 use Rattle.euclid.specs.Euclid.{gcdOf}
 use Rattle.euclid.proofs.Euclid.{gcd-stored, gcd-zero}

@@ -14,7 +14,7 @@ use Rattle.poly_meaning.proofs.Series.{series}
 use Rattle.poly_meaning.proofs.Degrees.{below-bounded, length-means}
 use Rattle.division.proofs.Leading.{stored-bounded}
 use Rattle.problem.specs.Reduced.{Coprime, LeadingOne, Reduced}
-use Rattle.problem_meaning.proofs.Coprime.{coprime-means, means-coprime}
+use Rattle.reduced_meaning.proofs.Coprime.{coprime-means, means-coprime}
 use Rattle.reduced.specs.CommonDivisor.{commonDivisorOf}
 use Rattle.reduced.proofs.CommonDivisors.{common-stored, common-nonzero, common-means, constant-ideal}
 

@@ -3,10 +3,9 @@ use mathlib.Core.List.{List}
 use mathlib.Core.Logic.{_⊎_, inl, inr}
 use mathlib.Core.Path.{_≡_, refl, sym, _∙_}
 use Prim.Native.Nat.{ℕ, _*_, _/_, _<_, _≤_}
-use borrow.Author.Tests.{eqb-true, eqb-false, ltb-false, leb-false, not-false}
-use lib.Dec.{leb}
+use borrow.Author.Tests.{eqb-true, eqb-false, ltb-false, not-false}
 use lib.ListN.{length}
-use Rattle.format.specs.Bounds.{primeOf, Storable}
+use Rattle.format.specs.Bounds.{primeOf}
 use Rattle.format.specs.Numbers.{numberFrom}
 use Rattle.format.specs.declared.Reason.{Reason}
 use Rattle.format.specs.declared.Reason.the-variants.{TooShort, SpareBit, ByteCount, TooFewRows, OutOfRange, TooManyRows}
@@ -14,20 +13,13 @@ use Rattle.format.specs.declared.Outcome.{Outcome}
 use Rattle.format.specs.declared.Outcome.the-variants.{Accepted, Refused}
 use Rattle.cursor.specs.Bits.{headerOf}
 use Rattle.header.specs.Header.{boundsOf, spareBitOf, rowsNeededOf}
-use Rattle.header.proofs.Fields.{narrow}
-use Rattle.row_search.specs.declared.Found.{Found}
-use Rattle.row_search.specs.declared.Found.the-variants.{At, Nothing}
 use Rattle.row_search.specs.Search.{ifHolds}
-use Rattle.row_search.proofs.FirstBelow.{any-passes}
 use Rattle.job.specs.Refusals.{tooShort, spareBitIsOne, tooFewRows, refuse}
+use Rattle.job.proofs.Forms.{Decisive, refuse-decisive}
 use Rattle.job.proofs.Facts.{or-false, refused-not-accepted, passed, does-not-hold, two-values}
 use Rattle.coefficients.specs.Coefficients.{coefficientLengthOf, anyTooLarge}
+use Rattle.coefficients.proofs.Ranges.{not-large}
 use Rattle.trial.specs.Refusals.{byteCountsDiffer, tooManyRows, testedNumbers, testedBefore}
-
-pub storable : (h : List ℕ) → Storable (boundsOf h)
-storable h =
-    let fields = narrow h in
-    record { few = fields .outputs-most; denominator-low = fields .dg-most; numerators-low = λ i. fields .df-most }
 
 -- where no test before 10 applies
 pub record TrialFacts (h c : List ℕ) (w : ℕ) : Type 0 where
@@ -57,46 +49,41 @@ trial-facts h c w accepted =
       enough-rows = ltb-false _ _ (does-not-hold (tooFewRows h) (t4 .0));
       distinct-points = ltb-false _ _ (rows .0);
       few-spoiled = ltb-false _ _ (rows .1);
-      coefficients-in-range = λ k l. leb-false _ _
-          (any-passes (λ j. leb (primeOf (boundsOf h)) (numberFrom c (2 * j))) (length c / 2) (does-not-hold (anyTooLarge (boundsOf h) c) (t5 .0)) k l);
+      coefficients-in-range = not-large (boundsOf h) c (does-not-hold (anyTooLarge (boundsOf h) c) (t5 .0));
     }
 
--- tests either refuse, whatever the later ones say, or answer as these do
-abbrev Decisive : (Outcome → Outcome) → Type 0
-Decisive tests = ((reason : Reason) × (row : ℕ) × ((later : Outcome) → tests later ≡ Refused reason row)) ⊎ ((later : Outcome) → tests later ≡ later)
-
-refuse-decisive : (reason : Reason) (f : Found) (tests : Outcome → Outcome) → Decisive tests → Decisive (λ later. refuse reason f (tests later))
-refuse-decisive reason (At row) tests d = inl (reason, row, λ later. refl)
-refuse-decisive reason Nothing tests d = d
+-- no matter for which reason
+abbrev AnyReason : Reason → Type 0
+AnyReason reason = Unit
 
 module _ (h c : List ℕ) (w : ℕ) where
-  tested-decisive : Decisive (testedBefore h c w)
+  tested-decisive : Decisive AnyReason (testedBefore h c w)
   unfolding testedBefore testedNumbers
   tested-decisive =
-      refuse-decisive TooShort (ifHolds (tooShort h) 0) _
-      (refuse-decisive SpareBit (ifHolds (spareBitIsOne h) 0) _
-      (refuse-decisive ByteCount (ifHolds (byteCountsDiffer h c) 0) _
-      (refuse-decisive TooFewRows (ifHolds (tooFewRows h) 0) _
-      (refuse-decisive TooManyRows (ifHolds (tooManyRows (boundsOf h) w) 0) _
-      (refuse-decisive OutOfRange (ifHolds (anyTooLarge (boundsOf h) c) 0) (λ later. later) (inr (λ later. refl)))))))
+      refuse-decisive AnyReason TooShort (ifHolds (tooShort h) 0) _ tt
+      (refuse-decisive AnyReason SpareBit (ifHolds (spareBitIsOne h) 0) _ tt
+      (refuse-decisive AnyReason ByteCount (ifHolds (byteCountsDiffer h c) 0) _ tt
+      (refuse-decisive AnyReason TooFewRows (ifHolds (tooFewRows h) 0) _ tt
+      (refuse-decisive AnyReason TooManyRows (ifHolds (tooManyRows (boundsOf h) w) 0) _ tt
+      (refuse-decisive AnyReason OutOfRange (ifHolds (anyTooLarge (boundsOf h) c) 0) (λ later. later) tt (inr (λ later. refl)))))))
 
   pub accepted-or-refused : (testedBefore h c w Accepted ≡ Accepted) ⊎ ((reason : Reason) × (row : ℕ) × (testedBefore h c w Accepted ≡ Refused reason row))
   accepted-or-refused = by tested-decisive
     where
-      by : Decisive (testedBefore h c w) → (testedBefore h c w Accepted ≡ Accepted) ⊎ ((reason : Reason) × (row : ℕ) × (testedBefore h c w Accepted ≡ Refused reason row))
-      by (inl d) = inr (d .0, d .1, d .2 Accepted)
+      by : Decisive AnyReason (testedBefore h c w) → (testedBefore h c w Accepted ≡ Accepted) ⊎ ((reason : Reason) × (row : ℕ) × (testedBefore h c w Accepted ≡ Refused reason row))
+      by (inl d) = inr (d .0, d .1, d .3 Accepted)
       by (inr d) = inl (d Accepted)
 
   pub refused-whatever : {reason : Reason} {row : ℕ} → testedBefore h c w Accepted ≡ Refused reason row → (later : Outcome) → testedBefore h c w later ≡ Refused reason row
   refused-whatever {reason} {row} e later = by tested-decisive
     where
-      by : Decisive (testedBefore h c w) → testedBefore h c w later ≡ Refused reason row
-      by (inl d) = d .2 later ∙ sym (d .2 Accepted) ∙ e
+      by : Decisive AnyReason (testedBefore h c w) → testedBefore h c w later ≡ Refused reason row
+      by (inl d) = d .3 later ∙ sym (d .3 Accepted) ∙ e
       by (inr d) = absurd (refused-not-accepted (sym e ∙ d Accepted))
 
   pub accepted-later : testedBefore h c w Accepted ≡ Accepted → (later : Outcome) → testedBefore h c w later ≡ later
   accepted-later e later = by tested-decisive
     where
-      by : Decisive (testedBefore h c w) → testedBefore h c w later ≡ later
-      by (inl d) = absurd (refused-not-accepted (sym (d .2 Accepted) ∙ e))
+      by : Decisive AnyReason (testedBefore h c w) → testedBefore h c w later ≡ later
+      by (inl d) = absurd (refused-not-accepted (sym (d .3 Accepted) ∙ e))
       by (inr d) = d later

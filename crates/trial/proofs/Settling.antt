@@ -2,13 +2,12 @@
 use mathlib.Core.Bool.{Bool, true, false}
 use mathlib.Core.List.{List, _++_}
 use mathlib.Core.Logic.{_↔_}
-use mathlib.Core.Path.{_≡_, refl, sym, ap, subst, _∙_}
+use mathlib.Core.Path.{_≡_, refl, sym, ap, _∙_}
 use Prim.Native.Nat.{ℕ, _+_, _*_, _<_, _≤_}
 use borrow.Author.Tests.{lt-ltb, le-ltb}
 use lib.ListN.{length}
 use Rattle.lists.proofs.Truth.{clash}
 use Rattle.format.specs.declared.Bounds.{Bounds}
-use Rattle.field.proofs.Moduli.{modulus-positive}
 use Rattle.format.specs.Bounds.{primeOf}
 use Rattle.format.specs.declared.Reason.{Reason}
 use Rattle.format.specs.declared.Reason.the-variants.{AreaTooShort}
@@ -17,20 +16,13 @@ use Rattle.format.specs.declared.Outcome.the-variants.{Accepted, Refused}
 use Rattle.format.specs.Outcomes.{numberOf, refusedWriting, writtenReport}
 use Rattle.header.specs.Header.{boundsOf, jobLengthOf}
 use Rattle.job.proofs.Facts.{refused-not-accepted}
-use Rattle.poly.specs.Coefficients.{Bounded, Stored}
 use Rattle.answer.specs.Bytes.{coefficientBytes, overwritten}
 use Rattle.spoiling.specs.Spoiling.{addedBy}
 use Rattle.trial_rows.proofs.Numbers.{numbers-cong}
-use Rattle.problem.specs.Reduced.{Divides, Reduced}
 use Rattle.coefficients.specs.Coefficients.{denominatorOf, numeratorOf}
-use Rattle.coefficients.proofs.Ranges.{polynomial-size, denominator-bounded, numerator-bounded}
 use Rattle.trial.specs.Refusals.{testedBefore, trialOutcome}
 use Rattle.trial.specs.Trial.{jobBytes, trialJob, TrialReduced, trialReport, trialArea, Trial}
-use Rattle.trial.proofs.Facts.{storable, TrialFacts, refused-whatever, accepted-later}
-
--- being reduced is a matter of the n numerators
-pub reduced-cong : {p n : ℕ} {f f' : ℕ → List ℕ} {g : List ℕ} → ((i : ℕ) → i < n → f i ≡ f' i) → Reduced p n f g → Reduced p n f' g
-reduced-cong {p} e R = record { monic = R .monic; coprime = λ d dg df. R .coprime d dg (λ i l. subst (Divides p d) (sym (e i l)) (df i l)) }
+use Rattle.trial.proofs.Facts.{refused-whatever, accepted-later}
 
 -- the job of a vector that has these polynomials
 pub job-of : (h c : List ℕ) (start w : ℕ) {b : Bounds} {f : ℕ → List ℕ} {g : List ℕ} → b ≡ boundsOf h → ((i : ℕ) → i < boundsOf h .outputs → f i ≡ numeratorOf (boundsOf h) c i)
@@ -40,22 +32,6 @@ job-of h c start w {f = f} eb ef eg =
     rw (eb, eg)
     (ap (λ l. h ++ coefficientBytes l (boundsOf h .rows * (1 + boundsOf h .outputs)))
     (numbers-cong (primeOf (boundsOf h)) f (numeratorOf (boundsOf h) c) (denominatorOf (boundsOf h) c) _ (boundsOf h .rows) (boundsOf h .outputs) ef))
-
--- the polynomials, where the tests before 10 let them pass
-module _ (h c : List ℕ) (w : ℕ) (facts : TrialFacts h c w) where
-  pub denominator-within : Bounded (primeOf (boundsOf h)) (boundsOf h .dg + 1) (denominatorOf (boundsOf h) c)
-  denominator-within =
-      denominator-bounded (boundsOf h) (storable h) c (facts .coefficient-bytes) (modulus-positive (boundsOf h .prime)) (facts .coefficients-in-range)
-
-  pub numerator-within : (i : ℕ) → i < boundsOf h .outputs → Bounded (primeOf (boundsOf h)) (boundsOf h .df + 1) (numeratorOf (boundsOf h) c i)
-  numerator-within =
-      numerator-bounded (boundsOf h) (storable h) c (facts .coefficient-bytes) (modulus-positive (boundsOf h .prime)) (facts .coefficients-in-range)
-
-  pub denominator-stored : Stored (primeOf (boundsOf h)) (denominatorOf (boundsOf h) c)
-  denominator-stored = record { size = polynomial-size c _ _; below = denominator-within .residues }
-
-  pub numerator-stored : (i : ℕ) → i < boundsOf h .outputs → Stored (primeOf (boundsOf h)) (numeratorOf (boundsOf h) c i)
-  numerator-stored i l = record { size = polynomial-size c _ _; below = numerator-within i l .residues }
 
 module _ (h c : List ℕ) (start w : ℕ) (area : List ℕ) where
   abbrev outcome : Bool → Outcome

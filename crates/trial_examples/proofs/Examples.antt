@@ -26,8 +26,10 @@ use Rattle.spoiling.specs.Spoiling.{untakenFrom, chosenRow, addedBy}
 use Rattle.trial_rows.specs.Rows.{rightValue, valueBefore, trialNumber, trialNumbers}
 use Rattle.trial.specs.Refusals.{testedNumbers, testedBefore, trialOutcome}
 use Rattle.trial.specs.Trial.{trialJob, TrialReduced}
+use Rattle.coefficients.proofs.Ranges.{denominator-stored, numerator-stored}
+use Rattle.header.proofs.Fields.{storable}
 use Rattle.trial.proofs.Facts.{TrialFacts, trial-facts}
-use Rattle.trial.proofs.Settling.{settle-written, denominator-stored, numerator-stored}
+use Rattle.trial.proofs.Settling.{settle-written}
 use Rattle.trial.proofs.Laws.{trial-unique}
 use Rattle.trial_recovery.specs.TrialRecovery.{poleOrSpoiled, polesAndSpoiled}
 use Rattle.trial_examples.specs.Examples.{header, coefficients, job, PageWritten, PageRecovered, EachRefusal}
@@ -57,7 +59,9 @@ page-facts = trial-facts header coefficients 2 page-passes
 page-reduced : TrialReduced header coefficients
 unfolding boundsOf headerOf polynomialFrom numeratorStart tabulate lengthOf lengthBelow commonDivisorOf gcdOf gcdFrom remainderOf remainderFrom degreeOf divisionStep cancelledOf cancelledAt cancelFactor leadingReciprocal reciprocalOf firstBelow shifted
 page-reduced =
-    constant-reduced 7 (modulus-prime P7) 2 _ (denominator-stored header coefficients 2 page-facts) (numerator-stored header coefficients 2 page-facts)
+    constant-reduced 7 (modulus-prime P7) 2 _
+    (denominator-stored (boundsOf header) (storable header) coefficients (page-facts .coefficient-bytes) (page-facts .coefficients-in-range))
+    (numerator-stored (boundsOf header) (storable header) coefficients (page-facts .coefficient-bytes) (page-facts .coefficients-in-range))
     (λ e. omega arith) refl refl
 
 page-job : trialJob header coefficients 14 2 ≡ job

@@ -14,7 +14,7 @@ use Rattle.format.specs.declared.Report.{Report}
 use Rattle.format.specs.declared.WritingReport.{WritingReport}
 use Rattle.format.specs.Outcomes.{reportOf, refusedReport, recoveredReport}
 use Rattle.header.specs.Header.{boundsOf, jobLengthOf}
-use Rattle.header.proofs.Fields.{narrow}
+use Rattle.header.proofs.Fields.{narrow, storable}
 use Rattle.job.specs.Refusals.{outcomeOf}
 use Rattle.job.proofs.Deciding.{at-1}
 use Rattle.job.proofs.Facts.{WellFormedFacts, facts-well-formed, refused-not-accepted}
@@ -28,9 +28,9 @@ use Rattle.problem.proofs.Same.{wrong-count-same, recovered-same}
 use Rattle.recovery.specs.Recovery.{RefusedEarly, Answered, RefusedUnsolvable, Settled}
 use Rattle.coefficients.specs.Coefficients.{denominatorOf, numeratorOf}
 use Rattle.trial.specs.Trial.{trialJob, TrialReduced, Trial}
-use Rattle.trial.proofs.Facts.{storable, TrialFacts, trial-facts}
+use Rattle.trial.proofs.Facts.{TrialFacts, trial-facts}
 use Rattle.coefficients.proofs.Written.{Bytes, coefficients-written}
-use Rattle.trial.proofs.Settling.{denominator-within, numerator-within}
+use Rattle.coefficients.proofs.Ranges.{denominator-bounded, numerator-bounded}
 use Rattle.trial.proofs.Laws.{Wrote, RefusedTrial, trial-cases, wrote-if-not-refused, refused-otherwise}
 use Rattle.trial_recovery.specs.TrialRecovery.{poleOrSpoiled, polesAndSpoiled, GivenBack, TrialRecovered}
 use Rattle.trial_recovery.proofs.Reading.{job-length, bounds-same, spare-same, number-below, number-read, point-read}
@@ -76,7 +76,10 @@ module _ (h c : List ℕ) (start w : ℕ) (F : TrialFacts h c w) (R : TrialReduc
   -- and its vector is its answer, where the poles and spoiled rows are few enough
   job-answer : polesAndSpoiled h c start w ≤ boundsOf h .errors → Answer s f g
   job-answer few = record {
-    within = subst (λ b. Within b f g) (sym bounds) (record { numerators = numerator-within h c w F; denominator = denominator-within h c w F });
+    within = subst (λ b. Within b f g) (sym bounds) (record {
+      numerators = numerator-bounded (boundsOf h) (storable h) c (F .coefficient-bytes) (F .coefficients-in-range);
+      denominator = denominator-bounded (boundsOf h) (storable h) c (F .coefficient-bytes) (F .coefficients-in-range);
+    });
     reduced = subst (λ (b : Bounds). Reduced (primeOf b) (b .outputs) f g) (sym bounds) R;
     few-wrong = subst (λ (b : Bounds). wrongCount s f g ≤ b .errors) (sym bounds) (subst (λ k. k ≤ boundsOf h .errors) (sym count-is) few);
   }

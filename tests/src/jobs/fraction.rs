@@ -42,7 +42,8 @@ impl Fraction {
                 )
             }
             Shape::CommonFactor => Fraction::enlarged(random, job, wrong_count),
-            Shape::Any | Shape::WholeField => {
+            Shape::PartlyCommon => Fraction::partly_common(random, job, wrong_count),
+            Shape::Any | Shape::WholeField | Shape::LongestAnswer => {
                 Fraction::reduced(random, job, job.numerator_bound, job.denominator_bound, 0)
             }
         }
@@ -56,12 +57,21 @@ impl Fraction {
         denominator_bound: usize,
         poles: usize,
     ) -> Option<Fraction> {
-        let field = Field::new(job.prime());
         let degree = drawn_degree(random, denominator_bound - poles);
         let denominator = with_roots(random, job, degree, poles);
         let numerators: Vec<Polynomial> = (0..job.outputs)
             .map(|_| numerator(random, numerator_bound, job.prime()))
             .collect();
+        Fraction::if_reduced(denominator, numerators, job)
+    }
+
+    /// The fraction of these polynomials, or `None` where they have a common divisor.
+    fn if_reduced(
+        denominator: Polynomial,
+        numerators: Vec<Polynomial>,
+        job: &Job,
+    ) -> Option<Fraction> {
+        let field = Field::new(job.prime());
         let divisor = numerators
             .iter()
             .fold(denominator.clone(), |d, f| d.common_divisor(f, field));
@@ -86,6 +96,18 @@ impl Fraction {
             common_factor,
             ..fraction
         })
+    }
+
+    /// A reduced fraction although g and all f but one have a common divisor.
+    fn partly_common(random: &mut Random, job: &Job, wrong_count: usize) -> Option<Fraction> {
+        let fraction = Fraction::enlarged(random, job, wrong_count)?;
+        let other = random.below(job.outputs);
+        let enlarged = |polynomial: &Polynomial| {
+            polynomial.times(&fraction.common_factor, Field::new(job.prime()))
+        };
+        let mut numerators: Vec<Polynomial> = fraction.numerators.iter().map(enlarged).collect();
+        numerators[other] = fraction.numerators[other].clone();
+        Fraction::if_reduced(enlarged(&fraction.denominator), numerators, job)
     }
 }
 

@@ -33,12 +33,18 @@ pub enum Shape {
     WholeField,
     /// The bounds are far above the true degrees.
     LooseBounds,
+    /// Two outputs or more; g and all f but one have a common divisor.
+    PartlyCommon,
+    /// 31 rows, four outputs, df 30 and dg 0.
+    LongestAnswer,
 }
 
 pub struct Planted {
     pub job: Job,
     pub denominator: Vec<u32>,
     pub numerators: Vec<Vec<u32>>,
+    /// What the values were enlarged by; answers of shape `CommonFactor` times this meet the bounds.
+    pub common_factor: Polynomial,
     /// The rows that are wrong for the planted answer.
     pub word: u32,
 }
@@ -78,6 +84,7 @@ pub fn planted(random: &mut Random, shape: Shape, wrong: WrongRows) -> Planted {
             job,
             denominator,
             numerators,
+            common_factor: fraction.common_factor,
             word,
         };
     }
@@ -94,8 +101,9 @@ struct Least {
 fn least(shape: Shape, wrong: WrongRows) -> Least {
     let (numerator_bound, denominator_bound, bounds_sum) = match shape {
         Shape::Poles => (0, 1, 1),
-        Shape::CommonFactor => (1, 1, 2),
+        Shape::CommonFactor | Shape::PartlyCommon => (1, 1, 2),
         Shape::LooseBounds => (0, 0, 8),
+        Shape::LongestAnswer => (30, 0, 30),
         Shape::Any | Shape::AllZero | Shape::WholeField => (0, 0, 0),
     };
     let errors = match wrong {
@@ -115,7 +123,7 @@ fn least(shape: Shape, wrong: WrongRows) -> Least {
 pub fn header(random: &mut Random, shape: Shape, wrong: WrongRows) -> Job {
     let prime_code = match shape {
         Shape::WholeField => 0,
-        Shape::LooseBounds => random.between(1, 3),
+        Shape::LooseBounds | Shape::LongestAnswer => random.between(1, 3),
         _ => random.below(4),
     };
     let prime = PRIMES[prime_code];
@@ -125,7 +133,11 @@ pub fn header(random: &mut Random, shape: Shape, wrong: WrongRows) -> Job {
         Shape::WholeField => most_rows,
         _ => random.between(least.bounds_sum + 2 * least.errors + 1, most_rows),
     };
-    let outputs = random.between(1, 4);
+    let outputs = match shape {
+        Shape::PartlyCommon => random.between(2, 4),
+        Shape::LongestAnswer => 4,
+        _ => random.between(1, 4),
+    };
     let points = distinct_points(random, prime, row_count);
     let values = vec![0; outputs];
     let row = |point| Row {
@@ -204,7 +216,7 @@ fn fill_values(random: &mut Random, job: &mut Job, fraction: &Fraction) {
 
 /// Makes right rows wrong until `wrong_count` rows are; returns the word of the wrong rows, or
 /// `None` where too many are wrong already.
-fn spoil(
+pub fn spoil(
     random: &mut Random,
     job: &mut Job,
     denominator: &[u32],

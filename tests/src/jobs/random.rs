@@ -37,6 +37,11 @@ impl Random {
         self.below(times) == 0
     }
 
+    /// One entry of a list that is not empty.
+    pub fn one_of<T: Copy>(&mut self, list: &[T]) -> T {
+        list[self.below(list.len())]
+    }
+
     pub fn residue(&mut self, prime: u32) -> u32 {
         self.below(prime as usize) as u32
     }

@@ -109,7 +109,9 @@ impl Draft {
     fn draw(random: &mut Random, shape: Shape) -> Draft {
         loop {
             let wrong = match shape {
-                Shape::Any | Shape::CommonFactor if random.once_in(6) => WrongRows::None,
+                Shape::Any | Shape::CommonFactor | Shape::PartlyCommon if random.once_in(6) => {
+                    WrongRows::None
+                }
                 _ => WrongRows::Exact,
             };
             let mut job = header(random, shape, wrong);
@@ -198,27 +200,11 @@ fn filled(random: &mut Random, length: usize) -> Vec<u8> {
 
 /// A call with a reduced fraction although g and all f but one have a common divisor.
 fn partly_common(random: &mut Random) -> TrialCall {
-    loop {
-        let mut draft = Draft::draw(random, Shape::CommonFactor);
-        if draft.numerators.len() == 1 {
-            continue;
-        }
-        let other = random.below(draft.numerators.len());
-        let kept = draft.numerators[other].clone();
-        draft.multiply_by_common_factor();
-        draft.numerators[other] = kept;
-        let field = draft.field();
-        let divisor = draft
-            .numerators
-            .iter()
-            .fold(draft.denominator.clone(), |d, f| d.common_divisor(f, field));
-        if divisor == Polynomial::one() {
-            draft.spoil(random, Spoiled::Within);
-            let mut call = draft.call(random);
-            call.labels.push("common divisor of g and all f but one");
-            return call;
-        }
-    }
+    let mut draft = Draft::draw(random, Shape::PartlyCommon);
+    draft.spoil(random, Spoiled::Within);
+    let mut call = draft.call(random);
+    call.labels.push("common divisor of g and all f but one");
+    call
 }
 
 impl Draft {

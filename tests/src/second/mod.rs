@@ -2,10 +2,11 @@
 //!
 //! It shares no code with the library or with `plain`, and its method is another one. It reads the
 //! job bytes, tests the refusals, solves by Gaussian elimination and writes the answer by itself.
-//! Beside it the second writer of trial jobs and the second reciprocal, as separate.
+//! Beside it the second writer of trial jobs, the second reciprocal and the second judge, as separate.
 
 mod equations;
 mod field;
+mod judge;
 pub mod polynomial;
 mod reader;
 mod reciprocal;
@@ -15,6 +16,7 @@ mod trial;
 
 pub use field::Field;
 use hanthuvelo::Report;
+pub use judge::judge;
 use polynomial::Polynomial;
 use reader::{Problem, Row};
 pub use reciprocal::reciprocal;

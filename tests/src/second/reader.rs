@@ -141,7 +141,7 @@ fn first_row_with_used_point(problem: &Problem) -> Option<usize> {
     })
 }
 
-fn answer_length(problem: &Problem) -> usize {
+pub fn answer_length(problem: &Problem) -> usize {
     let coefficients =
         problem.denominator_bound + 1 + problem.outputs * (problem.numerator_bound + 1);
     4 + 2 * coefficients

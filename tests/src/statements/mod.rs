@@ -14,7 +14,7 @@ use std::path::{Path, PathBuf};
 use walk::Walk;
 
 /// The functions whose contracts are the demands and the requests, each in the sources of its crate.
-pub const ROOTS: [(&str, &str); 8] = [
+pub const ROOTS: [(&str, &str); 11] = [
     ("recovery", "recover"),
     ("enlargement", "recover_both"),
     ("capi", "hanthuvelo_recover"),
@@ -23,6 +23,9 @@ pub const ROOTS: [(&str, &str); 8] = [
     ("capi", "hanthuvelo_trial"),
     ("reciprocal", "reciprocal"),
     ("capi", "hanthuvelo_reciprocal"),
+    ("offered_answer", "judge_answer"),
+    ("judged_recovery", "recover_and_judge"),
+    ("capi", "hanthuvelo_judge"),
 ];
 
 /// Where the page stands in the repository.

@@ -1,7 +1,5 @@
 -- The length of g, its leading coefficient and the length of the greatest common divisor decide.
 use mathlib.Core.Path.{_≡_, sym, ap, _∙_}
-use mathlib.Core.Bool.{true, false}
-use mathlib.Core.Logic.{_↔_}
 use Prim.Native.Nat.{ℕ, _-_}
 use native.Mathlib.Omega.{arith}
 use lib.ListN.{length}
@@ -10,6 +8,7 @@ use borrow.Author.Tests.{eqb-true, eq-eqb}
 use Rattle.field.specs.Primes.{modulusOf}
 use Rattle.field.proofs.Moduli.{modulus-prime}
 use Rattle.lists.proofs.Tabulated.{at-past}
+use Rattle.lists.proofs.Truth.{refuted}
 use Rattle.poly.specs.Coefficients.{at}
 use Rattle.poly.specs.Vectors.{coefficientsAt}
 use Rattle.poly.specs.Operations.{lengthOf}
@@ -17,10 +16,6 @@ use Rattle.reduced.specs.CommonDivisor.{commonDivisorOf}
 use Rattle.reduced.proofs.Decision.{leading-nonzero, leading-top, reduced-constant, constant-reduced}
 use Rattle.reduced.proofs.is_reduced.Statement.{statement}
 use Rattle.reduced.proofs.is_reduced.Tie as tie
-
--- the answer false, where A does not hold
-refuted : {A : Type 0} → (A → ⊥) → (false ≡ true) ↔ A
-refuted none = (λ e. absurd (let z : _≡_ {A = ℕ} 0 1 = cc in omega arith), λ a. absurd (none a))
 
 length-requires : tie.Need-length-requires
 length-requires c κs =

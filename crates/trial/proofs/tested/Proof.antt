@@ -12,11 +12,10 @@ use Rattle.format.specs.Bounds.{answerLengthOf, Storable}
 use Rattle.format.specs.declared.Bounds.{Bounds}
 use Rattle.format.specs.declared.Outcome.the-variants.{Accepted}
 use Rattle.header.specs.Header.{boundsOf, rowsNeededOf, Narrow}
-use Rattle.header.proofs.Fields.{narrow}
+use Rattle.header.proofs.Fields.{narrow, storable}
 use Rattle.job.specs.Refusals.{tooShort, spareBitIsOne}
 use Rattle.coefficients.specs.Coefficients.{coefficientLengthOf}
 use Rattle.trial.specs.Refusals.{byteCountsDiffer, testedNumbers}
-use Rattle.trial.proofs.Facts.{storable}
 use Rattle.trial.proofs.Deciding.{or-second, at-1, at-2, at-3, at-4, past-4}
 use Rattle.trial.proofs.tested.Statement.{statement}
 use Rattle.trial.proofs.tested.Tie as tie

@@ -11,18 +11,20 @@ use lib.ListN.{length}
 use Rattle.format.specs.declared.Reason.{Reason}
 use Rattle.format.specs.declared.Outcome.the-variants.{Accepted, Refused}
 use Rattle.header.specs.Header.{boundsOf, jobLengthOf}
-use Rattle.header.proofs.Fields.{narrow, rows-bytes}
+use Rattle.header.proofs.Fields.{narrow, rows-bytes, storable}
 use Rattle.lists.proofs.Truth.{clash}
 use Rattle.format.specs.Bounds.{primeOf}
 use Rattle.answer.specs.Bytes.{overwritten}
 use Rattle.poly.specs.Coefficients.{Stored}
 use Rattle.poly.specs.Vectors.{coefficientsAt}
 use Rattle.coefficients.specs.Coefficients.{denominatorOf, numeratorOf}
+use Rattle.coefficients.proofs.Ranges.{denominator-stored, numerator-stored}
+use Rattle.problem.proofs.Same.{reduced-cong}
 use Rattle.reduced.proofs.CommonDivisors.{stored-full}
 use Rattle.trial.specs.Refusals.{testedBefore}
 use Rattle.trial.specs.Trial.{TrialReduced}
-use Rattle.trial.proofs.Facts.{storable, TrialFacts, trial-facts, accepted-or-refused}
-use Rattle.trial.proofs.Settling.{settle-early, settle-not-reduced, settle-short, settle-written, reduced-cong, job-of, denominator-stored, numerator-stored}
+use Rattle.trial.proofs.Facts.{TrialFacts, trial-facts, accepted-or-refused}
+use Rattle.trial.proofs.Settling.{settle-early, settle-not-reduced, settle-short, settle-written, job-of}
 use Rattle.trial.proofs.trial.Statement.{statement}
 use Rattle.trial.proofs.trial.Tie as tie
 
@@ -81,8 +83,12 @@ vector-stored : (c : tie.After-read-vector) → let b = c .before .before .read-
     Stored (primeOf b) (c .read-vector .result .g .c) × ((i : ℕ) → i < b .outputs → Stored (primeOf b) (coefficientsAt (c .read-vector .result .f) i))
 vector-stored c =
     let b = bounds (c .before .before) in
-    let F = facts (c .before .before .before) in
-    (rw (b, denominator c) (denominator-stored _ _ _ F), (λ i l. let l' = rw b at l in rw (b, numerators c i l') (numerator-stored _ _ _ F i l')))
+    let F = facts (c .before .before .before) in (
+      rw (b, denominator c) (denominator-stored _ (storable _) _ (F .coefficient-bytes) (F .coefficients-in-range)),
+      (λ i l.
+          let l' = rw b at l in
+          rw (b, numerators c i l') (numerator-stored _ (storable _) _ (F .coefficient-bytes) (F .coefficients-in-range) i l')),
+    )
 
 reduced-requires : tie.Need-reduced-requires
 reduced-requires c κs = (rw (bounds (c .before .before)) (narrow _ .outputs-most), vector-stored c .0, vector-stored c .1)

@@ -110,6 +110,15 @@ impl Arguments {
         number_within(range, value, &format!(" behind {name}")).map(Some)
     }
 
+    /// A job and an answer; without the second word the answer is standard input.
+    pub fn job_and_answer(&self) -> Result<(&OsStr, &OsStr), Failure> {
+        match &self.files[..] {
+            [file] if *file != "-" => Ok((file, OsStr::new("-"))),
+            [file, answer] => Ok((file, answer)),
+            _ => Err(Failure::bad_use("expected a job and an answer")),
+        }
+    }
+
     pub fn at_least_one_file(&self) -> Result<(), Failure> {
         if self.files.is_empty() {
             return Err(Failure::bad_use("expected a file"));

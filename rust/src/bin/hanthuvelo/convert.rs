@@ -1,12 +1,12 @@
 //! `hanthuvelo pack`, `show` and `unpack`: jobs and answers from one form to another.
 
 use crate::arguments::{Arguments, Known};
-use crate::input::{self, error_in, error_of, Form};
+use crate::input::{self, error_of, Form};
 use crate::output::{self, Failure};
 use crate::render::listed;
 use crate::Status;
 use hanthuvelo::{hex, polynomial_text, Answer};
-use std::ffi::{OsStr, OsString};
+use std::ffi::OsString;
 
 pub const PACK_HELP: &str = "\
 usage: hanthuvelo pack [OPTION].. FILE..
@@ -33,7 +33,7 @@ pub const UNPACK_HELP: &str = "\
 usage: hanthuvelo unpack [OPTION].. FILE [ANSWER]
 
 Prints the bytes of an answer to the job in FILE as text: the wrong rows, g and each f. ANSWER is a file with these
-bytes; without it, or as -, they are read from standard input. Whether the answer is right is not tested.
+bytes; without it, or as -, they are read from standard input. Whether the answer is right is not tested; `judge` does that.
 FILE is a job as bytes, or a readable one, told apart by its bytes; - is standard input.
 
   --hex          the answer is hexadecimal text
@@ -77,26 +77,12 @@ pub fn show(words: &[OsString]) -> Result<Status, Failure> {
 
 pub fn unpack(words: &[OsString]) -> Result<Status, Failure> {
     let arguments = Arguments::parse(words, &[HEX, READABLE, BINARY])?;
-    let standard_input = OsString::from("-");
-    let (file, answer) = match &arguments.files[..] {
-        [file] if *file != "-" => (file, &standard_input),
-        [file, answer] => (file, answer),
-        _ => return Err(Failure::bad_use("expected a job and an answer")),
-    };
+    let (file, answer) = arguments.job_and_answer()?;
     let job = input::job(file, Form::from(&arguments)?)?;
-    let bytes = answer_bytes(answer, arguments.has("--hex"))?;
+    let bytes = input::answer_bytes(answer, arguments.has("--hex"))?;
     let read = Answer::unpack(&bytes, job.bounds(), job.rows().len());
     let read = read.map_err(|error| error_of(answer, error.to_string()))?;
     output::print(answer_text(&read).as_bytes())
-}
-
-fn answer_bytes(file: &OsStr, is_hex: bool) -> Result<Vec<u8>, Failure> {
-    let bytes = input::read(file, "an answer")?;
-    if !is_hex {
-        return Ok(bytes);
-    }
-    let text = String::from_utf8_lossy(&bytes);
-    Ok(hex::bytes(&text).map_err(|error| error_in(file, error))?)
 }
 
 fn answer_text(answer: &Answer) -> String {

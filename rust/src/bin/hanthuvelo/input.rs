@@ -1,9 +1,9 @@
-//! Jobs from files, readable or binary, and readable trials.
+//! Jobs from files, readable or binary, the bytes of answers, and readable trials.
 
 use crate::arguments::Arguments;
 use crate::output::Failure;
 use hanthuvelo::readable::{self, TextError};
-use hanthuvelo::{FormatError, Job, Trial};
+use hanthuvelo::{hex, FormatError, Job, Trial};
 use std::ffi::OsStr;
 use std::fmt::{Display, Formatter};
 use std::fs::File;
@@ -153,6 +153,16 @@ pub fn job(file: &OsStr, form: Form) -> Result<Job, InputError> {
             Job::unpack(&bytes).map_err(wrong)
         }
     }
+}
+
+/// The bytes that a file has for an answer, or lists as hexadecimal text.
+pub fn answer_bytes(file: &OsStr, is_hex: bool) -> Result<Vec<u8>, InputError> {
+    let bytes = read(file, "an answer")?;
+    if !is_hex {
+        return Ok(bytes);
+    }
+    let text = String::from_utf8_lossy(&bytes);
+    hex::bytes(&text).map_err(|error| error_in(file, error))
 }
 
 /// The trial in a file, which is readable.

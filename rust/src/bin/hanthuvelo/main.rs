@@ -1,9 +1,11 @@
-//! The command `hanthuvelo`: jobs recovered, packed and shown for people, trial jobs written, and reciprocals.
+//! The command `hanthuvelo`: jobs recovered, packed and shown for people, offered answers judged, trial jobs written, and
+//! reciprocals.
 
 mod arguments;
 mod convert;
 mod input;
 mod job_stream;
+mod judge;
 mod output;
 mod pieces;
 mod pool;
@@ -33,7 +35,7 @@ struct Verb {
     run: fn(&[OsString]) -> Result<Status, Failure>,
 }
 
-const VERBS: [Verb; 6] = [
+const VERBS: [Verb; 7] = [
     Verb {
         name: "recover",
         summary: "the fractions and the wrong rows of jobs",
@@ -59,6 +61,12 @@ const VERBS: [Verb; 6] = [
         run: convert::unpack,
     },
     Verb {
+        name: "judge",
+        summary: "whether the bytes of an answer are the job's, and why not",
+        help: judge::HELP,
+        run: judge::run,
+    },
+    Verb {
         name: "trial",
         summary: "jobs whose result is known, from fractions",
         help: trial::HELP,
@@ -76,6 +84,7 @@ const ABOUT: &str = "\
 hanthuvelo: exact fractions over one denominator, from values modulo a prime of which some are wrong
 
 usage: hanthuvelo VERB [OPTION].. FILE..
+       hanthuvelo unpack|judge [OPTION].. FILE [ANSWER]
        hanthuvelo reciprocal PRIME NUMBER..
        hanthuvelo VERB --help
        hanthuvelo --version
@@ -83,7 +92,8 @@ usage: hanthuvelo VERB [OPTION].. FILE..
 
 const STATUS: &str = "
 FILE is a job as bytes, or a readable one, told apart by its bytes; of trial a readable trial; - is standard input.
-Exit status: 0 done; 1 a job was refused, or a number has no reciprocal; 2 bad use, or an input that cannot be read.
+Exit status: 0 done; 1 a job was refused, an answer is not the job's, or a number has no reciprocal; 2 bad use, or an input
+that cannot be read.
 ";
 
 fn main() -> ExitCode {

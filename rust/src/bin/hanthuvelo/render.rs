@@ -110,6 +110,15 @@ pub fn refused_json(place: &Place, refusal: &Refusal) -> String {
     )
 }
 
+/// The verdict on an offered answer; the reason is that of a no.
+pub fn judged_json(place: &Place, reason: Option<&str>) -> String {
+    let verdict = match reason {
+        None => "\"yes\":true".to_string(),
+        Some(reason) => format!("\"yes\":false,\"reason\":{}", json_string(reason)),
+    };
+    json_object(place, "judged", &verdict)
+}
+
 pub fn unreadable_json(error: &InputError) -> String {
     let place = Place {
         file: &error.file,

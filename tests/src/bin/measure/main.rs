@@ -1,6 +1,8 @@
 //! Measures every implementation on the same jobs, in one run:
 //! `cargo run --offline --release --bin measure`.
 
+mod judging;
+
 use outside_checks::jobs::measured::{generate, Size};
 use outside_checks::{implementations, Implementation};
 use std::hint::black_box;
@@ -22,6 +24,9 @@ const GROWTH: [(usize, usize, usize); 6] = [
     (10, 8, 6),
 ];
 
+const FULL: &str = "df 10, dg 8, E 6, 31 rows, 4 outputs";
+const SMALL: &str = "df 1, dg 0, E 1, 4 rows, 4 outputs";
+
 /// Microseconds for a job, one entry for each round; the least comes first.
 struct Times {
     name: &'static str,
@@ -42,8 +47,8 @@ fn main() {
     if cfg!(debug_assertions) {
         println!("NOT OPTIMISED: run with --release");
     }
-    let full = measure_all(Size::FULL, JOBS);
-    let small = measure_all(sized(GROWTH[0]), JOBS);
+    let sizes = [(FULL, Size::FULL), (SMALL, sized(GROWTH[0]))];
+    let [full, small] = sizes.map(|(_, size)| measure_all(size, JOBS));
     println!(
         "library against plain Rust: full job {}, 4 rows {}",
         headline(&full),
@@ -52,8 +57,8 @@ fn main() {
     println!("\n{JOBS} jobs modulo 65521, full degrees, no pole, exactly E wrong rows; rounds take turns");
     println!("microseconds for a job: best and middle of {ROUNDS} rounds ({SLOW_ROUNDS} of the second solver)");
     println!("one area of the answer's length for all calls of a round, not cleared between them");
-    show("df 10, dg 8, E 6, 31 rows, 4 outputs", &full);
-    show("df 1, dg 0, E 1, 4 rows, 4 outputs", &small);
+    show(FULL, &full);
+    show(SMALL, &small);
     println!("\ngrowth with the rows, 4 outputs, {GROWTH_JOBS} jobs each, best");
     for bounds in GROWTH {
         let size = sized(bounds);
@@ -70,6 +75,7 @@ fn main() {
         );
     }
     println!("\nall implementations answered alike on every job");
+    judging::show(sizes);
 }
 
 fn sized((numerator_bound, denominator_bound, error_bound): (usize, usize, usize)) -> Size {

@@ -11,7 +11,7 @@ use Rattle.field.proofs.Primality.{IsPrime}
 use Rattle.reciprocal.proofs.PrimeField.{residue-equal, equal-residue, residueRing, residueField}
 use Rattle.poly_meaning.proofs.Series.{series, series-at}
 use Rattle.problem.specs.Reduced.{Divides, Coprime}
-use Rattle.problem_meaning.proofs.Lists.{listOf, list-means, list-polynomial, divides-means, means-divides}
+use Rattle.reduced_meaning.proofs.Lists.{listOf, list-means, list-polynomial, divides-means, means-divides}
 
 module _ (p : ℕ) (P : IsPrime p) (n : ℕ) (f : ℕ → List ℕ) (g : List ℕ) where
   pub coprime-means : Coprime p n f g → ReducedSeries (residueField p P) n (λ i. series p P (f i)) (series p P g)

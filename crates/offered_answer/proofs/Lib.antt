@@ -1,0 +1,4 @@
+pub mod Meaning
+pub mod Settling
+pub mod Laws
+mod Testing

@@ -1,0 +1,1 @@
+// Mathematics only: the modules are under proofs/.
