@@ -99,9 +99,9 @@ struct Counts {
     offered: usize,
 }
 
-/// Everything that can be offered for a job modulo 7: coefficients from 0 to 7, and every word of its
+/// Offers for a job modulo 7 all coefficients from 0 to 7 with every word of its
 /// rows. To the answer's word, or to none, each mark of a row that does not exist is added as well.
-fn judge_everything(judges: &[Judge], job: &Job, counts: &mut Counts) {
+fn judge_all_small(judges: &[Judge], job: &Job, counts: &mut Counts) {
     let found = answers(job);
     assert!(found.len() <= 1, "two answers: {job:?}");
     let right = found.first().map(|answer| answer.pack(job));
@@ -157,7 +157,7 @@ const SMALLEST: [(usize, usize, usize, usize, usize); 9] = [
 
 /// There is exactly one yes where the job has an answer, to its bytes, and none where it has not.
 #[test]
-fn everything_offered_for_the_smallest_jobs() {
+fn all_small_offers_for_the_smallest_jobs() {
     let judges = judges();
     let mut counts = Counts::default();
     for (outputs, df, dg, errors, stride) in SMALLEST {
@@ -165,7 +165,7 @@ fn everything_offered_for_the_smallest_jobs() {
         for_each_smallest_job((outputs, df, dg, errors), &mut |job| {
             number += 1;
             if number % stride == 0 {
-                judge_everything(&judges, job, &mut counts);
+                judge_all_small(&judges, job, &mut counts);
             }
         });
     }
@@ -175,7 +175,7 @@ fn everything_offered_for_the_smallest_jobs() {
         offered,
     } = counts;
     show(&format!(
-        "everything offered for the smallest jobs: {jobs} jobs, {solvable} with an answer, {offered} offered\n"
+        "all coefficients up to 7 and all words, for the smallest jobs: {jobs} jobs, {solvable} with an answer, {offered} offered\n"
     ));
     assert!(jobs >= 600 && solvable >= 300 && jobs - solvable >= 200 && offered > 5_000_000);
 }

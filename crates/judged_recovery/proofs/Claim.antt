@@ -10,7 +10,6 @@ use Rattle.format.specs.Bounds.{answerLengthOf}
 use Rattle.format.specs.declared.Report.{Report}
 use Rattle.format.specs.Outcomes.{reportOf}
 use Rattle.header.specs.Header.{boundsOf}
-use Rattle.job.specs.Refusals.{outcomeOf}
 use Rattle.job.proofs.Facts.{well-formed-facts}
 use Rattle.job.proofs.Forms.{form-refused, form-accepted}
 use Rattle.answer.proofs.Lengths.{length-answer}
@@ -20,8 +19,9 @@ use Rattle.problem_meaning.proofs.OnlyOne.{at-most-one}
 use Rattle.recovery.proofs.Settling.{answered-if-zero}
 use Rattle.recovery.specs.Recovery.{RefusedEarly, Answered, RefusedUnsolvable, Settled}
 use Rattle.offered_answer.specs.declared.JudgementReport.{JudgementReport}
-use Rattle.offered_answer.specs.Judgements.{noReport, unjudgedReport, InForm, OfAnswer, JobRefused, LengthRefused, Affirmed, Denied, Judged}
-use Rattle.offered_answer.proofs.Settling.{right-length}
+use Rattle.offered_answer.specs.Judgements.{unjudgedReport, InForm, OfAnswer, Judged}
+use Rattle.offered_answer.proofs.Settling.{settle-malformed, settle-length, settle-no}
+use Rattle.offered_answer.proofs.Laws.{judged-unique}
 use Rattle.judged_recovery.specs.JudgedRecovery.{JudgedRecovery}
 
 -- a job has one right answer at most, byte for byte
@@ -29,74 +29,43 @@ pub one-answer : (s a a' : List ℕ) → InForm s → OfAnswer s a → OfAnswer 
 one-answer s a a' wf right right' =
     right .3 ∙ recovered-same s (at-most-one s (well-formed-facts s (answerLengthOf (boundsOf s)) wf) (right .2) (right' .2)) ∙ sym (right' .3)
 
-module _ (s a : List ℕ) {j : JudgementReport} (J : Judged s a j) where
-  -- what is said of a job that no test refuses
-  judged-length : InForm s → (length a ≡ answerLengthOf (boundsOf s) → ⊥) → j ≡ unjudgedReport 3 0
-  judged-length wf other = by (J .cases)
+module _ (s a : List ℕ) {j : JudgementReport} (J : Judged s a j) (area : List ℕ) {r : Report} {after : List ℕ} (S : Settled s area r after) where
+  -- the bytes that it wrote
+  bytes-written : (A : Answered s area r after) → take (r .written) after ≡ recoveredBytes s (A .f) (A .g)
+  bytes-written A =
+      let bytes = recoveredBytes s (A .f) (A .g) in
+      ap₂ take (ap (λ t. t .written) (A .report)) (A .written)
+      ∙ take-at bytes (drop (length bytes) area) (answerLengthOf (boundsOf s)) (length-answer (boundsOf s) (wordFor s (A .f) (A .g)) (A .g) (A .f))
+
+  yes-to-written : (A : Answered s area r after) → (j .yes ≡ 1) ↔ (a ≡ take (r .written) after)
+  yes-to-written A = (
+    λ y. let right = J .yes .0 y .1 in right .3 ∙ sym (recovered-same s (A .only (right .0) (right .1) (right .2))) ∙ sym (bytes-written A),
+    λ e. J .yes .1 (form-accepted s (length area) (A .well-formed), (A .f, A .g, A .answer, e ∙ bytes-written A)),
+  )
+
+  in-form-if : (r .refusal ≡ 0) ⊎ (r .refusal ≡ 8) → InForm s
+  in-form-if (inl z) = form-accepted s (length area) (answered-if-zero s area S z .well-formed)
+  in-form-if (inr e) = form-accepted s (length area) (S .eight .0 e .0)
+
+  -- the job's own refusals
+  refused-alike : 0 < r .refusal → r .refusal < 7 → j ≡ unjudgedReport (r .refusal) (r .row)
+  refused-alike positive low = by (S .cases)
     where
-      by : JobRefused s j ⊎ (LengthRefused s a j ⊎ (Affirmed s a j ⊎ Denied s a j)) → j ≡ unjudgedReport 3 0
-      by (inl refused) = absurd (refused .malformed wf)
-      by (inr (inl l)) = l .report
-      by (inr (inr (inl y))) = absurd (other (right-length s a (y .right)))
-      by (inr (inr (inr n))) = absurd (other (n .right-length))
+      by : RefusedEarly s area r after ⊎ (Answered s area r after ⊎ RefusedUnsolvable s area r after) → j ≡ unjudgedReport (r .refusal) (r .row)
+      by (inr (inl A)) = absurd (let e = ap (λ t. t .refusal) (A .report) in omega arith)
+      by (inr (inr none)) = absurd (let e = ap (λ t. t .refusal) (none .report) in omega arith)
+      by (inl early) =
+          let e = ap (λ t. t .refusal) (early .report) in
+          let same = form-refused s (length area) (omega arith) (omega arith) in
+          judged-unique s a J (settle-malformed s a (λ wf. early .malformed (same ∙ wf)))
+          ∙ ap (λ t. unjudgedReport (t .refusal) (t .row)) (sym (early .report ∙ ap reportOf same))
 
-  judged-wrong : InForm s → length a ≡ answerLengthOf (boundsOf s) → (OfAnswer s a → ⊥) → j ≡ noReport
-  judged-wrong wf size wrong = by (J .cases)
-    where
-      by : JobRefused s j ⊎ (LengthRefused s a j ⊎ (Affirmed s a j ⊎ Denied s a j)) → j ≡ noReport
-      by (inl refused) = absurd (refused .malformed wf)
-      by (inr (inl l)) = absurd (l .other-length size)
-      by (inr (inr (inl y))) = absurd (wrong (y .right))
-      by (inr (inr (inr n))) = n .report
-
-  -- and of one that a test refuses
-  judged-refused : (InForm s → ⊥) → j ≡ unjudgedReport (reportOf (outcomeOf s (answerLengthOf (boundsOf s))) .refusal) (reportOf (outcomeOf s (answerLengthOf (boundsOf s))) .row)
-  judged-refused malformed = by (J .cases)
-    where
-      by : JobRefused s j ⊎ (LengthRefused s a j ⊎ (Affirmed s a j ⊎ Denied s a j))
-          → j ≡ unjudgedReport (reportOf (outcomeOf s (answerLengthOf (boundsOf s))) .refusal) (reportOf (outcomeOf s (answerLengthOf (boundsOf s))) .row)
-      by (inl refused) = refused .report
-      by (inr (inl l)) = absurd (malformed (l .in-form))
-      by (inr (inr (inl y))) = absurd (malformed (y .in-form))
-      by (inr (inr (inr n))) = absurd (malformed (n .in-form))
-
-  module _ (area : List ℕ) {r : Report} {after : List ℕ} (S : Settled s area r after) where
-    -- the bytes that it wrote
-    bytes-written : (A : Answered s area r after) → take (r .written) after ≡ recoveredBytes s (A .f) (A .g)
-    bytes-written A =
-        let bytes = recoveredBytes s (A .f) (A .g) in
-        ap₂ take (ap (λ t. t .written) (A .report)) (A .written)
-        ∙ take-at bytes (drop (length bytes) area) (answerLengthOf (boundsOf s)) (length-answer (boundsOf s) (wordFor s (A .f) (A .g)) (A .g) (A .f))
-
-    yes-to-written : (A : Answered s area r after) → (j .yes ≡ 1) ↔ (a ≡ take (r .written) after)
-    yes-to-written A = (
-      λ y. let right = J .yes .0 y .1 in right .3 ∙ sym (recovered-same s (A .only (right .0) (right .1) (right .2))) ∙ sym (bytes-written A),
-      λ e. J .yes .1 (form-accepted s (length area) (A .well-formed), (A .f, A .g, A .answer, e ∙ bytes-written A)),
-    )
-
-    in-form-if : (r .refusal ≡ 0) ⊎ (r .refusal ≡ 8) → InForm s
-    in-form-if (inl z) = form-accepted s (length area) (answered-if-zero s area S z .well-formed)
-    in-form-if (inr e) = form-accepted s (length area) (S .eight .0 e .0)
-
-    -- the job's own refusals
-    refused-alike : 0 < r .refusal → r .refusal < 7 → j ≡ unjudgedReport (r .refusal) (r .row)
-    refused-alike positive low = by (S .cases)
-      where
-        by : RefusedEarly s area r after ⊎ (Answered s area r after ⊎ RefusedUnsolvable s area r after) → j ≡ unjudgedReport (r .refusal) (r .row)
-        by (inr (inl A)) = absurd (let e = ap (λ t. t .refusal) (A .report) in omega arith)
-        by (inr (inr none)) = absurd (let e = ap (λ t. t .refusal) (none .report) in omega arith)
-        by (inl early) =
-            let e = ap (λ t. t .refusal) (early .report) in
-            let same = form-refused s (length area) (omega arith) (omega arith) in
-            judged-refused (λ wf. early .malformed (same ∙ wf))
-            ∙ ap (λ t. unjudgedReport (t .refusal) (t .row)) (sym (early .report ∙ ap reportOf same))
-
-    pub judged-recovery : JudgedRecovery s area r after a j
-    judged-recovery = record {
-      first = S;
-      second = J;
-      answered = λ z. yes-to-written (answered-if-zero s area S z);
-      unsolvable = λ e size. judged-wrong (in-form-if (inr e)) size (λ right. S .eight .0 e .1 (right .0) (right .1) (right .2));
-      other-length = λ e other. judged-length (in-form-if e) other;
-      refused = refused-alike;
-    }
+  pub judged-recovery : JudgedRecovery s area r after a j
+  judged-recovery = record {
+    first = S;
+    second = J;
+    answered = λ z. yes-to-written (answered-if-zero s area S z);
+    unsolvable = λ e size. judged-unique s a J (settle-no s a (in-form-if (inr e)) size (λ right. S .eight .0 e .1 (right .0) (right .1) (right .2)));
+    other-length = λ e other. judged-unique s a J (settle-length s a (in-form-if e) other);
+    refused = refused-alike;
+  }

@@ -1,5 +1,5 @@
 -- From the tests to what is said.
-use mathlib.Core.Path.{_≡_, refl, sym, ap, _∙_}
+use mathlib.Core.Path.{_≡_, refl, sym, ap, subst, _∙_}
 use mathlib.Core.Logic.{_⊎_, inl, inr, _↔_}
 use mathlib.Core.List.{List}
 use Prim.Native.Nat.{ℕ}
@@ -17,7 +17,7 @@ use Rattle.job.proofs.Forms.{form-same}
 use Rattle.answer.proofs.Lengths.{length-answer}
 use Rattle.problem.specs.Answers.{wordFor}
 use Rattle.offered_answer.specs.declared.JudgementReport.{JudgementReport}
-use Rattle.offered_answer.specs.Judgements.{yesReport, noReport, unjudgedReport, InForm, OfAnswer, JobRefused, LengthRefused, Affirmed, Denied, Judged}
+use Rattle.offered_answer.specs.Judgements.{yesReport, noReport, unjudgedReport, formOf, InForm, OfAnswer, JobRefused, LengthRefused, Affirmed, Denied, Judged}
 
 -- an answer's bytes have the right length
 pub right-length : (s a : List ℕ) → OfAnswer s a → length a ≡ answerLengthOf (boundsOf s)
@@ -34,19 +34,12 @@ module _ (s a : List ℕ) where
       by (inr (inr (inl y))) = ((λ e. (y .in-form, y .right)), λ h. ap (λ t. t .yes) (y .report))
       by (inr (inr (inr n))) = ((λ y. absurd (let e = ap (λ t. t .yes) (n .report) in omega arith)), λ h. absurd (n .wrong (h .1)))
 
-  -- tests 1 to 6, as the code runs them
-  form : outcomeOf s 254 ≡ outcomeOf s (answerLengthOf (boundsOf s))
-  form = form-same s 254 (le-refl 254)
+  -- a test refuses the job
+  pub settle-malformed : (InForm s → ⊥) → Judged s a (unjudgedReport (formOf s .refusal) (formOf s .row))
+  settle-malformed malformed = judged (inl (record { malformed = malformed; report = refl }))
 
-  pub settle-refused : {reason : Reason} {row : ℕ} → outcomeOf s 254 ≡ Refused reason row → Judged s a (unjudgedReport (numberOf reason) row)
-  settle-refused e =
-      let refused = sym form ∙ e in
-      judged (inl (record { malformed = λ wf. refused-not-accepted (sym refused ∙ wf); report = sym (ap (λ o. unjudgedReport (reportOf o .refusal) (reportOf o .row)) refused) }))
-
-  module _ (accepted : outcomeOf s 254 ≡ Accepted) where
-    in-form : InForm s
-    in-form = sym form ∙ accepted
-
+  -- no test refuses it
+  module _ (in-form : InForm s) where
     pub settle-length : (length a ≡ answerLengthOf (boundsOf s) → ⊥) → Judged s a (unjudgedReport 3 0)
     settle-length other = judged (inr (inl (record { in-form = in-form; other-length = other; report = refl })))
 
@@ -55,3 +48,15 @@ module _ (s a : List ℕ) where
 
     pub settle-no : length a ≡ answerLengthOf (boundsOf s) → (OfAnswer s a → ⊥) → Judged s a noReport
     settle-no size wrong = judged (inr (inr (inr (record { in-form = in-form; right-length = size; wrong = wrong; report = refl }))))
+
+  -- tests 1 to 6 as the code runs them, with an area of 254 bytes
+  form : outcomeOf s 254 ≡ outcomeOf s (answerLengthOf (boundsOf s))
+  form = form-same s 254 (le-refl 254)
+
+  pub in-form-if-read : outcomeOf s 254 ≡ Accepted → InForm s
+  in-form-if-read accepted = sym form ∙ accepted
+
+  pub settle-refused : {reason : Reason} {row : ℕ} → outcomeOf s 254 ≡ Refused reason row → Judged s a (unjudgedReport (numberOf reason) row)
+  settle-refused e =
+      subst (λ o. Judged s a (unjudgedReport (reportOf o .refusal) (reportOf o .row))) (sym form ∙ e)
+      (settle-malformed (λ wf. refused-not-accepted (sym e ∙ form ∙ wf)))

@@ -12,7 +12,7 @@ use Rattle.word.proofs.Words.{word-same}
 use Rattle.word.proofs.Counts.{count-same}
 use Rattle.answer.specs.Bytes.{twoBytes, fourBytes, coefficientBytes, outputBytes, answerBytes}
 use Rattle.problem.specs.Reduced.{Divides, Reduced, Same}
-use Rattle.problem.specs.Answers.{wrongAt, wrongCount, Answer, recoveredBytes}
+use Rattle.problem.specs.Answers.{wrongAt, wrongCount, Within, Answer, recoveredBytes}
 use Rattle.problem.proofs.Rows.{wrong-same}
 
 bounded-same : {p n : ℕ} {a b : List ℕ} → ((k : ℕ) → at a k ≡ at b k) → Bounded p n a → Bounded p n b
@@ -23,6 +23,13 @@ divides-same p d a b e D = (D .0, λ k. D .1 k ∙ ap (λ t. t % p) (sym (e k)))
 
 pub same-sym : {n : ℕ} {f f' : ℕ → List ℕ} {g g' : List ℕ} → Same n f g f' g' → Same n f' g' f g
 same-sym h = record { denominator = λ k. sym (h .denominator k); numerators = λ i l k. sym (h .numerators i l k) }
+
+-- equal polynomials have the same coefficients
+pub same-if-equal : {n : ℕ} {f f' : ℕ → List ℕ} {g g' : List ℕ} → ((i : ℕ) → i < n → f i ≡ f' i) → g ≡ g' → Same n f g f' g'
+same-if-equal ef eg = record { denominator = λ k. ap (λ t. at t k) eg; numerators = λ i l k. ap (λ t. at t k) (ef i l) }
+
+pub within-same : {b : Bounds} {f f' : ℕ → List ℕ} {g g' : List ℕ} → Same (b .outputs) f g f' g' → Within b f g → Within b f' g'
+within-same h w = record { numerators = λ i l. bounded-same (h .numerators i l) (w .numerators i l); denominator = bounded-same (h .denominator) (w .denominator) }
 
 pub reduced-same : {p n : ℕ} {f f' : ℕ → List ℕ} {g g' : List ℕ} → Same n f g f' g' → Reduced p n f g → Reduced p n f' g'
 reduced-same {p} {f = f} {f' = f'} {g = g} {g' = g'} h r = record {
@@ -36,7 +43,7 @@ reduced-same {p} {f = f} {f' = f'} {g = g} {g' = g'} h r = record {
 
 -- of the numerators the first n count
 pub reduced-cong : {p n : ℕ} {f f' : ℕ → List ℕ} {g : List ℕ} → ((i : ℕ) → i < n → f i ≡ f' i) → Reduced p n f g → Reduced p n f' g
-reduced-cong e = reduced-same (record { denominator = λ k. refl; numerators = λ i l k. ap (λ t. at t k) (e i l) })
+reduced-cong e = reduced-same (same-if-equal e refl)
 
 module _ (s : List ℕ) {f f' : ℕ → List ℕ} {g g' : List ℕ} (h : Same (boundsOf s .outputs) f g f' g') where
   -- the same rows are wrong
@@ -48,10 +55,7 @@ module _ (s : List ℕ) {f f' : ℕ → List ℕ} {g g' : List ℕ} (h : Same (b
 
   pub answer-same : Answer s f g → Answer s f' g'
   answer-same a = record {
-    within = record {
-      numerators = λ i l. bounded-same (h .numerators i l) (a .within .numerators i l);
-      denominator = bounded-same (h .denominator) (a .within .denominator);
-    };
+    within = within-same h (a .within);
     reduced = reduced-same h (a .reduced);
     few-wrong = (let e = wrong-count-same in let m = a .few-wrong in omega arith);
   }

@@ -18,9 +18,10 @@ use Rattle.job.specs.Refusals.{outcomeOf}
 use Rattle.job.specs.declared.reading.Reading.{Reading}
 use Rattle.job.proofs.Laws.{reading-outcome, reading-accepted}
 use Rattle.job.proofs.Forms.{accepted-or-refused}
+use Rattle.offered_answer.specs.Judgements.{InForm}
 use Rattle.offered_answer.specs.Tests.{Passes}
 use Rattle.offered_answer.proofs.Meaning.{passes-right, right-passes}
-use Rattle.offered_answer.proofs.Settling.{settle-refused, settle-length, settle-yes, settle-no}
+use Rattle.offered_answer.proofs.Settling.{settle-length, settle-yes, settle-no, in-form-if-read, settle-refused}
 use Rattle.offered_answer.proofs.judge_answer.Statement.{statement}
 use Rattle.offered_answer.proofs.judge_answer.Tie as tie
 
@@ -55,6 +56,9 @@ module _ (c : tie.At-match-keys2) where
       by (inl e) = e
       by (inr r) = let e = outcome here ∙ r .2 in ⊎-elim (λ h. absurd (omega arith)) (λ h. absurd (omega arith)) (rw e at (c .match .keys2))
 
+  in-form : InForm (s here)
+  in-form = in-form-if-read (s here) (a here) accepted
+
   reading : here .read .result ≡ record { outcome = Accepted; bounds = boundsOf (s here); points = jobPoints (s here); values = jobValues (s here) }
   reading = here .read .ensures ∙ reading-accepted (s here) 254 accepted
 
@@ -69,7 +73,7 @@ returns-2 : tie.Need-returns-2
 returns-2 c =
     let l = c .before in
     let m = l .before .before in
-    settle-length (s (here m)) (a (here m)) (accepted m) (λ e. c .if1 .taken (e ∙ sym (total l)))
+    settle-length (s (here m)) (a (here m)) (in-form m) (λ e. c .if1 .taken (e ∙ sym (total l)))
 
 -- the offered bytes have the right length
 size : (c : tie.Else1) → let m = c .before .before .before in length (a (here m)) ≡ answerLengthOf (boundsOf (s (here m)))
@@ -94,14 +98,14 @@ returns-3 c =
     let t = c .before in
     let e = t .before .before .before in
     let m = e .before .before .before in
-    settle-yes (s (here m)) (a (here m)) (accepted m) (passes-right (s (here m)) (a (here m)) (size e) (λ k. here m .before .shared-slice-known2 .given k .fits) (decided t .0 (c .if2 .taken)))
+    settle-yes (s (here m)) (a (here m)) (in-form m) (passes-right (s (here m)) (a (here m)) (size e) (λ k. here m .before .shared-slice-known2 .given k .fits) (decided t .0 (c .if2 .taken)))
 
 returns-4 : tie.Need-returns-4
 returns-4 c =
     let t = c .before in
     let e = t .before .before .before in
     let m = e .before .before .before in
-    settle-no (s (here m)) (a (here m)) (accepted m) (size e)
+    settle-no (s (here m)) (a (here m)) (in-form m) (size e)
     (λ right. clash (sym (decided t .1 (right-passes (s (here m)) (a (here m)) (size e) right)) ∙ c .if2 .left))
 
 pub judge-answer-spec : {M : Type 1} → statement M

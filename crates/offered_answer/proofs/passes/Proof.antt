@@ -14,11 +14,11 @@ use Rattle.format.specs.declared.Bounds.{Bounds}
 use Rattle.poly.specs.Vectors.{coefficientsAt}
 use Rattle.problem.specs.Reduced.{Same}
 use Rattle.problem.specs.Answers.{Within}
-use Rattle.problem.proofs.Same.{same-sym, reduced-same}
+use Rattle.problem.proofs.Same.{same-sym, same-if-equal, within-same, reduced-same}
 use Rattle.coefficients.specs.Coefficients.{coefficientLengthOf, denominatorOf, numeratorOf, anyTooLarge}
 use Rattle.coefficients.proofs.Ranges.{not-large, denominator-bounded, numerator-bounded, denominator-stored, numerator-stored}
 use Rattle.offered_answer.specs.Tests.{offeredDenominator, offeredNumerator}
-use Rattle.offered_answer.proofs.Testing.{same-if-equal, within-if-equal, agree-same}
+use Rattle.offered_answer.proofs.Testing.{agree-same}
 use Rattle.offered_answer.proofs.passes.Statement.{statement}
 use Rattle.offered_answer.proofs.passes.Tie as tie
 
@@ -66,7 +66,7 @@ module _ (c : tie.Else1) where
   pub within : Within (b read) (coefficientsAt (read .read-vector .result .f)) (read .read-vector .result .g .c)
   within =
       let low = not-large (b read) (drop 4 (a read)) below in
-      within-if-equal (numerators read) (denominator read) (record {
+      within-same (same-sym (listed read)) (record {
         numerators = numerator-bounded (b read) (start read .pre .1) (drop 4 (a read)) (size read) low;
         denominator = denominator-bounded (b read) (start read .pre .1) (drop 4 (a read)) (size read) low;
       })
