@@ -3,8 +3,8 @@
  *
  * Given rows (x; y1 .. yn) modulo a prime p, the library finds the reduced fractions f1/g .. fn/g within the
  * degree bounds that are wrong at no more than E rows, and says which rows those are; or it says that there
- * are none. It also writes trial jobs, whose result is known, from such fractions, judges answers that others computed, and
- * gives reciprocals modulo p.
+ * are none. It also checks the form of jobs alone, writes trial jobs, whose result is known, from such fractions, judges
+ * answers that others computed, and gives reciprocals modulo p.
  *
  * After `bash install PREFIX`, pkg-config knows the flags as `hanthuvelo`. Without it link
  * target/staticlib/libcapi.a, which `rt staticlib capi` writes. The archive is for x86-64 Linux and needs nothing
@@ -48,11 +48,12 @@ extern "C" {
  */
 
 /*
- * The refusals; the first that applies is returned. A recovery tests 1 to 8 in this order, a trial 1, 2, 3, 4, 9, 5, 10
- * and 7, as said at hanthuvelo_trial, a judgement 1 to 6 and then 3, as said at hanthuvelo_judge.
+ * The refusals; the first that applies is returned. A recovery tests 1 to 8 in this order, a check 1 to 6, a trial 1, 2, 3,
+ * 4, 9, 5, 10 and 7, as said at hanthuvelo_trial, a judgement 1 to 6 and then 3, as said at hanthuvelo_judge.
  */
 enum {
     HANTHUVELO_RECOVERED = 0,      /* not refused: the area begins with the answer */
+    HANTHUVELO_ACCEPTED = 0,       /* of a check: none of 1 to 6 applies */
     HANTHUVELO_WRITTEN = 0,        /* of a trial: the area begins with the job */
     HANTHUVELO_JUDGED = 0,         /* of a judgement: the offered answer is judged */
     HANTHUVELO_TOO_SHORT = 1,      /* the job has fewer than 3 bytes */
@@ -91,6 +92,25 @@ struct hanthuvelo_report {
  */
 struct hanthuvelo_report hanthuvelo_recover(const uint8_t *job, size_t job_length, uint8_t *area,
                                             size_t area_length);
+
+/* What a check of a job's form returns. */
+struct hanthuvelo_refusal {
+    uint32_t refusal; /* 0 if the job is accepted, else the number of the refusal, 1 to 6 */
+    uint32_t row;     /* the row that refusal 5 or 6 speaks of, counted from 0; else 0 */
+};
+
+/*
+ * Checks the form of the job of job_length bytes at `job`: returns the first of the refusals 1 to 6 that applies, tested in
+ * this order, with the row that 5 or 6 speaks of, and refusal 0 and row 0 if none does.
+ *
+ * It recovers nothing and has no area. A job that is refused here is refused by a recovery in the same way, whatever its
+ * area. One that is accepted is recovered, or refused with 7 or 8, which depend on the area and on the answer.
+ *
+ * Any bytes make a job, which is only read. The caller sees to it that the pointer leads to as many bytes as the length
+ * says, and that nothing writes to them until the call returns. A pointer whose length is 0 is not followed. As a recovery,
+ * the call allocates no memory and keeps nothing between calls.
+ */
+struct hanthuvelo_refusal hanthuvelo_check(const uint8_t *job, size_t job_length);
 
 /* What a call that writes a trial job returns. */
 struct hanthuvelo_written {

@@ -4,7 +4,7 @@ use crate::{Answer, Job, Prime, Refusal, Trial, LONGEST_ANSWER, LONGEST_JOB};
 
 #[allow(unsafe_code)]
 mod linked {
-    use crate::{Judgement, Report, Written};
+    use crate::{Form, Judgement, Report, Written};
 
     /// What a call for a reciprocal returns; `value` is the reciprocal where `exists` is 1.
     #[repr(C)]
@@ -40,6 +40,8 @@ mod linked {
             answer: *const u8,
             answer_length: usize,
         ) -> Judgement;
+
+        fn hanthuvelo_check(job: *const u8, job_length: usize) -> Form;
     }
 
     /// Recovers the job in `job` and writes its answer to the start of `area`.
@@ -97,9 +99,19 @@ mod linked {
         // of its caller.
         unsafe { hanthuvelo_judge(job.as_ptr(), job.len(), answer.as_ptr(), answer.len()) }
     }
+
+    /// Checks the form of a job: the first of the refusals 1 to 6 that applies, if one does. Nothing is recovered.
+    ///
+    /// Any bytes make a job. What is refused here is refused by a recovery in the same way. What is accepted is recovered, or
+    /// refused with 7 or 8, which depend on the area and on the answer.
+    pub fn check(job: &[u8]) -> Form {
+        // SAFETY: the pointer comes from a live slice of the length passed with it, and the function asks nothing else of
+        // its caller.
+        unsafe { hanthuvelo_check(job.as_ptr(), job.len()) }
+    }
 }
 
-pub use linked::{judge, reciprocal, recover, trial};
+pub use linked::{check, judge, reciprocal, recover, trial};
 
 impl Prime {
     /// The reciprocal of a number modulo this prime p: the only r below p whose product with the number is 1 modulo p.
@@ -127,6 +139,32 @@ impl Job {
         match Refusal::of(report, &bytes) {
             Some(refusal) => Err(refusal),
             None => Ok(Answer::read(&area, self.bounds())),
+        }
+    }
+
+    /// Whether this job's form is as it should be, or which of the refusals 1 to 6 it meets first.
+    ///
+    /// The job is not recovered for that: an accepted one may still have no answer.
+    ///
+    /// ```
+    /// use hanthuvelo::Job;
+    ///
+    /// // Three readings of a constant modulo 7, of which one may be wrong. No constant is wrong at one row only.
+    /// let job: Job = "prime 7 outputs 1 df 0 dg 0 errors 1\n0: 5\n1: 4\n2: 2".parse().expect("a readable job");
+    /// assert_eq!(job.check(), Ok(()));
+    /// assert_eq!(job.recover().expect_err("no answer").number, 8);
+    ///
+    /// // The point 0 stands twice.
+    /// let job: Job = "prime 7 outputs 1 df 0 dg 0 errors 1\n0: 5\n1: 5\n0: 2".parse().expect("a readable job");
+    /// let refusal = job.check().expect_err("a repeated point");
+    /// assert_eq!(refusal.to_string(), "refused 6, row 2: its point 0 stands in an earlier row");
+    /// assert_eq!(job.recover(), Err(refusal));
+    /// ```
+    pub fn check(&self) -> Result<(), Refusal> {
+        let bytes = self.pack();
+        match Refusal::of_check(check(&bytes), &bytes) {
+            Some(refusal) => Err(refusal),
+            None => Ok(()),
         }
     }
 

@@ -28,6 +28,8 @@
 //! # }
 //! ```
 //!
+//! [`Job::check`] says whether a job meets one of the refusals 1 to 6, those of its form, without recovering it.
+//!
 //! A [`Trial`] is the way back: a job whose result is known, written from fractions, with rows spoiled on purpose.
 //!
 //! [`Job::judge`] says yes or no to the bytes that another solver offers as a job's answer, without recovering the job. Why
@@ -36,8 +38,8 @@
 //! [`Prime::reciprocal`] is the reciprocal of a number modulo a prime, and `None` for zero, which has none: so a curve 1/g
 //! has no value at a pole.
 //!
-//! [`recover`], [`judge`], [`trial`](fn@trial) and [`reciprocal`] are the calls themselves, on any bytes, areas and numbers,
-//! as the C header declares them.
+//! [`recover`], [`check`], [`judge`], [`trial`](fn@trial) and [`reciprocal`] are the calls themselves, on any bytes, areas and
+//! numbers, as the C header declares them.
 
 #![deny(unsafe_code)]
 #![warn(missing_docs)]
@@ -55,7 +57,7 @@ mod trial;
 
 pub use answer::{polynomial_text, trimmed, Answer};
 #[cfg(feature = "library")]
-pub use call::{judge, reciprocal, recover, trial};
+pub use call::{check, judge, reciprocal, recover, trial};
 pub use job::{Bounds, FormatError, Header, Job, Prime, Row};
 pub use objection::{objection, Fault, Objection};
 pub use refusal::Refusal;
@@ -189,5 +191,35 @@ impl Judgement {
     /// Whether the offered answer is the job's.
     pub fn is_yes(&self) -> bool {
         self.yes == 1
+    }
+}
+
+/// What a call that checks a job's form returns.
+///
+/// An accepted job has `refusal` 0 and `row` 0. Whether it has an answer is not said by that.
+#[repr(C)]
+#[derive(Clone, Copy, Debug, PartialEq, Eq)]
+pub struct Form {
+    /// The refusal's number, 1 to 6; 0 where none of these tests refuses the job.
+    pub refusal: u32,
+    /// The row that refusal 5 or 6 speaks of, counted from 0; else 0.
+    pub row: u32,
+}
+
+impl Form {
+    /// What a call returns for a job that none of the tests 1 to 6 refuses.
+    pub const ACCEPTED: Form = Form { refusal: 0, row: 0 };
+
+    /// What a call returns for a job that is refused with this number, speaking of this row.
+    pub const fn refused(number: u32, row: u32) -> Form {
+        Form {
+            refusal: number,
+            row,
+        }
+    }
+
+    /// Whether none of the tests 1 to 6 refuses the job.
+    pub fn is_accepted(&self) -> bool {
+        self.refusal == 0
     }
 }

@@ -2,7 +2,7 @@
 
 use crate::job::{counted, numbers};
 use crate::objection::{of_denominator, of_length};
-use crate::{Bounds, Header, Judgement, Report, Written};
+use crate::{Bounds, Form, Header, Judgement, Report, Written};
 use std::error::Error;
 use std::fmt::{Display, Formatter};
 
@@ -10,7 +10,7 @@ use std::fmt::{Display, Formatter};
 /// `refused 5, row 2: a point or a value is 7 or more`.
 #[derive(Clone, Debug, PartialEq, Eq)]
 pub struct Refusal {
-    /// The number: 1 to 8 of a job; 1 to 5, 7, 9 or 10 of a trial; 1 to 6 of a judgement.
+    /// The number: 1 to 8 of a job; 1 to 5, 7, 9 or 10 of a trial; 1 to 6 of a judgement or a check.
     pub number: u32,
     /// The row that refusal 5 or 6 of a job speaks of, counted from 0; else 0.
     pub row: u32,
@@ -35,6 +35,16 @@ impl Refusal {
             },
             names_a_row: matches!(refusal, 5 | 6),
         })
+    }
+
+    /// The refusal that a call of [`check`](crate::check) on these bytes reported, if it did. The words are those of
+    /// [`Refusal::of`], since a recovery of the job reports the same.
+    pub fn of_check(form: Form, job: &[u8]) -> Option<Refusal> {
+        if form.is_accepted() {
+            return None;
+        }
+        let Form { refusal, row } = form;
+        Refusal::of(Report::refused(refusal, row), job)
     }
 
     /// The refusal that a call of [`trial`](crate::trial) with these bytes and so many rows to be spoiled reported, if it did.

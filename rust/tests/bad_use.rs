@@ -5,7 +5,7 @@ mod support;
 use support::{assert_bad_use, assert_fails, file, folder, run, run_on};
 
 /// Words behind `hanthuvelo`, the verb first, and what is said of them.
-const BAD_WORDS: [(&str, &str); 15] = [
+const BAD_WORDS: [(&str, &str); 17] = [
     ("recover", "expected a file"),
     ("recover --jsn x", "unknown option `--jsn`"),
     (
@@ -26,7 +26,9 @@ const BAD_WORDS: [(&str, &str); 15] = [
         "recover --threads 0 x",
         "expected a number from 1 to 1024 behind --threads, found `0`",
     ),
+    ("recover --refused x", "unknown option `--refused`"),
     ("recover - -", "expected - once at most"),
+    ("check", "expected a file"),
     ("pack", "expected a file"),
     ("pack --json x", "unknown option `--json`"),
     ("show", "expected a file"),
@@ -37,7 +39,7 @@ const BAD_WORDS: [(&str, &str); 15] = [
 
 #[test]
 fn bad_words_are_named() {
-    let verbs = "expected a verb of recover, pack, show, unpack, judge, trial, reciprocal";
+    let verbs = "expected a verb of recover, check, pack, show, unpack, judge, trial, reciprocal";
     let unknown = format!("hanthuvelo: {verbs}, found `recovr`");
     assert_fails(&run(&["recovr", "x"]), &unknown);
     for (words, message) in BAD_WORDS {
@@ -80,7 +82,7 @@ fn files_that_cannot_be_read_are_named() {
             ", line 2: expected `prime P outputs N df D dg D errors E`, found `set -euo pipefail`",
         ),
     ] {
-        for verb in ["recover", "pack", "show"] {
+        for verb in ["recover", "check", "pack", "show"] {
             assert_fails(&run(&[verb, name]), &format!("{name}{message}"));
         }
     }

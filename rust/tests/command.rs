@@ -6,8 +6,8 @@ use hanthuvelo::hex;
 use outside_checks::jobs::{generate, Random};
 use std::fs;
 use support::{
-    assert_done, assert_fails, command, feed, file, folder, run, run_on, run_redirected,
-    stream_jobs, Run, ROOT,
+    assert_done, assert_fails, command, example_names, feed, file, folder, run, run_on,
+    run_redirected, stream_jobs, Run, ROOT,
 };
 
 const H1: &str = "01800200000005000100050002 0002";
@@ -121,18 +121,7 @@ fn several_files_have_a_summary_and_one_status() {
 #[test]
 fn a_folder_is_its_jobs_by_name() {
     let all = run(&["recover", "examples"]);
-    let mut names: Vec<String> = fs::read_dir(format!("{ROOT}/examples"))
-        .expect("the examples")
-        .map(|entry| {
-            entry
-                .expect("an example")
-                .file_name()
-                .into_string()
-                .expect("a name")
-        })
-        .filter(|name| name.ends_with(".job"))
-        .collect();
-    names.sort();
+    let names = example_names();
     let told: Vec<&str> = all
         .text
         .lines()
@@ -198,6 +187,7 @@ fn help_and_version_are_printed() {
     assert_eq!(general.status, 0);
     for verb in [
         "recover",
+        "check",
         "pack",
         "show",
         "unpack",
@@ -260,6 +250,7 @@ fn a_closed_input_or_output_is_no_panic() {
     assert_eq!(closed.status, 1, "{}", closed.said);
     for words in [
         "recover examples/h01.job",
+        "check examples/h01.job",
         "pack examples/h01.job",
         "--help",
     ] {
@@ -279,6 +270,7 @@ fn a_broken_pipe_ends_the_command() {
     for words in [
         &["recover", "--stream", "-"][..],
         &["recover", "--stream", "--json", "--threads", "1", "-"],
+        &["check", "--stream", "-"],
     ] {
         let mut child = command(words).spawn().expect("the command starts");
         drop(child.stdout.take());
@@ -322,11 +314,16 @@ fn nothing_panics_on_random_input() {
     let name = folder.to_str().expect("a name");
     let all = run(&["recover", "--json", name]);
     assert_eq!((all.text.lines().count(), all.status), (2000, 2));
-    let is_summary = |line: &str| line.contains(" recovered, ") && line.ends_with(" jobs a second");
+    let checked = run(&["check", "--json", name]);
+    assert_eq!((checked.text.lines().count(), checked.status), (2000, 2));
+    let counts = |line: &str| line.contains(" recovered, ") || line.contains(" accepted, ");
+    let is_summary = |line: &str| counts(line) && line.ends_with(" jobs a second");
     for index in 0..300 {
         let name = format!("{name}/{index:04}.job");
         for words in [
             &["recover", "--stream", &name][..],
+            &["check", "--stream", "--refused", &name],
+            &["check", &name],
             &["show", &name],
             &["unpack", "examples/h01.job", &name],
             &["judge", "examples/h01.job", &name],

@@ -277,10 +277,10 @@ fn any_text_and_any_bytes_are_read_or_named() {
 #[cfg(feature = "library")]
 mod with_library {
     use super::{hex, Header};
-    use hanthuvelo::{recover, Job, Refusal};
+    use hanthuvelo::{check, recover, Job, Refusal};
     use outside_checks::paper::{EXAMPLES, REFUSALS};
 
-    /// The words of each refusal, by the paper's table.
+    /// The words of each refusal, by the paper's table; those of 1 to 6 are said by a check too.
     #[test]
     fn refusals_are_said_in_words() {
         let expected = [
@@ -303,6 +303,8 @@ mod with_library {
             assert_eq!(refusal.to_string(), words);
             assert_eq!((refusal.number, refusal.row), (report.refusal, report.row));
             assert_eq!(report, example.report);
+            let form = Refusal::of_check(check(&job), &job);
+            assert_eq!(form, (refusal.number <= 6).then_some(refusal));
         }
     }
 
@@ -311,6 +313,7 @@ mod with_library {
         for example in EXAMPLES.iter().filter(|example| example.name != "H12") {
             let bytes = hex::bytes(example.job).expect("the paper's job");
             let job = Job::unpack(&bytes).expect("a job");
+            assert_eq!(job.check().is_err(), example.report.refusal == 5);
             match job.recover() {
                 Ok(answer) => {
                     let expected = hex::bytes(example.answer).expect("the paper's answer");

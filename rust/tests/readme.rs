@@ -102,7 +102,7 @@ fn every_verb_is_in_the_table_and_has_an_example() {
     }
 }
 
-/// The keys of the schema's table are those of the objects, for each of the four statuses.
+/// The keys of the schema's table are those of the objects, for each of the five statuses.
 #[test]
 fn the_schema_names_every_key() {
     let page = readme();
@@ -113,9 +113,10 @@ fn the_schema_names_every_key() {
     let judged = "echo 00 | hanthuvelo judge --json --hex examples/h01.job; \
                   echo 2000000000010004 | hanthuvelo judge --json --hex examples/h01.job";
     let objects = printed("hanthuvelo recover --json examples README.md")
+        + &printed("hanthuvelo check --json examples")
         + &printed(stream)
         + &printed(judged);
-    for status in ["recovered", "judged", "refused", "unreadable"] {
+    for status in ["recovered", "accepted", "judged", "refused", "unreadable"] {
         assert!(
             objects.contains(&format!("\"status\":\"{status}\"")),
             "{objects}"

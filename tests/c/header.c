@@ -55,6 +55,51 @@ static int check_recover(void)
     return 0;
 }
 
+static int checked(struct hanthuvelo_refusal r, uint32_t refusal, uint32_t row)
+{
+    return r.refusal == refusal && r.row == row;
+}
+
+/* Whether a check says what a recovery does before it looks at its area, which has no bytes here. */
+static int agrees(const uint8_t *job, size_t job_length)
+{
+    struct hanthuvelo_report r = hanthuvelo_recover(job, job_length, NULL, 0);
+    if (r.refusal == HANTHUVELO_AREA_TOO_SHORT) {
+        r.refusal = HANTHUVELO_ACCEPTED;
+    }
+    return checked(hanthuvelo_check(job, job_length), r.refusal, r.row);
+}
+
+static int check_form(void)
+{
+    EXPECT(sizeof(struct hanthuvelo_refusal) == 8);
+    EXPECT(offsetof(struct hanthuvelo_refusal, refusal) == 0);
+    EXPECT(offsetof(struct hanthuvelo_refusal, row) == 4);
+
+    EXPECT(checked(hanthuvelo_check(NULL, 0), HANTHUVELO_TOO_SHORT, 0));
+    EXPECT(checked(hanthuvelo_check(H1_JOB, sizeof H1_JOB), HANTHUVELO_ACCEPTED, 0));
+
+    /* Every other byte at each place, with every length, and what is lent stays as it was. */
+    uint8_t job[sizeof H1_JOB], before[sizeof H1_JOB];
+    for (size_t place = 0; place < sizeof job; place++) {
+        for (unsigned byte = 0; byte < 256; byte++) {
+            memcpy(job, H1_JOB, sizeof job);
+            job[place] = (uint8_t)byte;
+            memcpy(before, job, sizeof job);
+            for (size_t length = 0; length <= sizeof job; length++) {
+                EXPECT(agrees(job, length));
+            }
+            EXPECT(memcmp(job, before, sizeof job) == 0);
+        }
+    }
+
+    /* A job without an answer, which a recovery refuses with 8. */
+    memcpy(job, H1_JOB, sizeof job);
+    job[10] = 4;
+    EXPECT(checked(hanthuvelo_check(job, sizeof job), HANTHUVELO_ACCEPTED, 0));
+    return 0;
+}
+
 /* The example of docs/TRIAL.md: g = 1 + u, f1 = 5 and f2 = 1 modulo 7, two rows spoiled from the word 14. */
 static const uint8_t HEADER[] = {0x13, 0x80, 0x24, 0};
 static const uint8_t COEFFICIENTS[] = {0, 1, 0, 1, 0, 5, 0, 1, 0};
@@ -165,20 +210,24 @@ static int judged(struct hanthuvelo_judgement j, uint32_t refusal, uint32_t row,
     return j.refusal == refusal && j.row == row && j.yes == yes;
 }
 
-/* Whether the first job_length bytes of H1's job with one byte changed are refused so, whatever is offered as the answer. */
+/*
+ * Whether the first job_length bytes of H1's job with one byte changed are refused so, by a check, and by a judgement
+ * whatever is offered as the answer.
+ */
 static int job_refused(size_t place, uint8_t byte, size_t job_length, uint32_t refusal, uint32_t row)
 {
     uint8_t job[sizeof H1_JOB], before[sizeof H1_JOB];
     memcpy(job, H1_JOB, sizeof job);
     job[place] = byte;
     memcpy(before, job, sizeof job);
-    return judged(hanthuvelo_judge(job, job_length, H1_ANSWER, sizeof H1_ANSWER), refusal, row, 0)
+    return checked(hanthuvelo_check(job, job_length), refusal, row)
+           && judged(hanthuvelo_judge(job, job_length, H1_ANSWER, sizeof H1_ANSWER), refusal, row, 0)
            && judged(hanthuvelo_judge(job, job_length, H1_ANSWER, 7), refusal, row, 0)
            && judged(hanthuvelo_judge(job, job_length, NULL, 0), refusal, row, 0)
            && memcmp(job, before, sizeof job) == 0;
 }
 
-static int check_judge_refusals(void)
+static int check_refusals(void)
 {
     uint8_t answer[HANTHUVELO_ANSWER_MAX] = {0};
     memcpy(answer, H1_ANSWER, sizeof H1_ANSWER);
@@ -233,5 +282,5 @@ static int check_judge(void)
 
 int main(void)
 {
-    return check_recover() || check_trial() || check_reciprocal() || check_judge_refusals() || check_judge();
+    return check_recover() || check_form() || check_trial() || check_reciprocal() || check_refusals() || check_judge();
 }

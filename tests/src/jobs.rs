@@ -2,6 +2,7 @@
 
 pub mod enlargement;
 mod faulty;
+pub mod form;
 mod fraction;
 pub mod judged;
 pub mod measured;
@@ -12,8 +13,7 @@ mod tally;
 pub mod trial;
 
 use crate::layout::Answer;
-use hanthuvelo::hex;
-use hanthuvelo::Report;
+use hanthuvelo::{hex, Form, Report};
 use planted::{planted, Planted, Shape, WrongRows};
 pub use random::Random;
 pub use tally::{Kind, Tally};
@@ -35,6 +35,20 @@ pub enum Expected {
     },
     /// The solvers are only compared with each other.
     Open,
+}
+
+impl Expected {
+    /// What is known of the job's form: which of the refusals 1 to 6 applies, if one does.
+    fn form(&self) -> Option<Form> {
+        match *self {
+            Expected::Refused {
+                number: number @ 1..=6,
+                row,
+            } => Some(Form::refused(number, row)),
+            Expected::Open => None,
+            _ => Some(Form::ACCEPTED),
+        }
+    }
 }
 
 /// A job with the area that is lent with it.
@@ -87,7 +101,7 @@ enum Source {
 /// The job of this number in the run of this seed.
 pub fn generate(seed: u64, index: u64) -> GeneratedJob {
     let mut random = Random::new(seed, index);
-    let mut job = match source_of(index) {
+    let mut job = match planned(&PLAN, index).0 {
         Source::Planted(shape, wrong) => from_planted(&mut random, shape, wrong),
         Source::Faulty(number, other) => {
             let number = if random.once_in(2) { number } else { other };
@@ -102,13 +116,17 @@ pub fn generate(seed: u64, index: u64) -> GeneratedJob {
     job
 }
 
-fn source_of(index: u64) -> Source {
-    let mut slots = PLAN
-        .iter()
-        .flat_map(|&(source, parts)| std::iter::repeat_n(source, parts));
-    slots
-        .nth((index % 50) as usize)
-        .expect("the plan has 50 parts")
+/// The entry of a plan that a number falls to, and how many numbers before it fall to the same.
+fn planned<T: Copy>(plan: &[(T, usize)], index: u64) -> (T, usize) {
+    let whole: usize = plan.iter().map(|(_, parts)| parts).sum();
+    let (round, mut place) = (index as usize / whole, index as usize % whole);
+    for &(entry, parts) in plan {
+        if place < parts {
+            return (entry, round * parts + place);
+        }
+        place -= parts;
+    }
+    unreachable!("the place is below the sum of all parts")
 }
 
 fn from_planted(random: &mut Random, shape: Shape, wrong: WrongRows) -> GeneratedJob {

@@ -13,7 +13,7 @@ pub mod program;
 pub mod second;
 pub mod statements;
 
-use hanthuvelo::{Judgement, Report, Written};
+use hanthuvelo::{Form, Judgement, Report, Written};
 use std::io::Write;
 use std::str::FromStr;
 
@@ -108,6 +108,32 @@ pub fn judges() -> Vec<Judge> {
         Judge {
             name: "second",
             judge: second::judge,
+        },
+    ]
+}
+
+/// One way to check the form of a job.
+#[derive(Clone, Copy)]
+pub struct Checker {
+    pub name: &'static str,
+    pub check: fn(&[u8]) -> Form,
+}
+
+/// Every check of the form to be compared; the library's only where its feature is on.
+pub fn checkers() -> Vec<Checker> {
+    vec![
+        #[cfg(feature = "library")]
+        Checker {
+            name: "library",
+            check: hanthuvelo::check,
+        },
+        Checker {
+            name: "plain",
+            check: plain::check,
+        },
+        Checker {
+            name: "second",
+            check: second::check,
         },
     ]
 }

@@ -64,7 +64,19 @@ fn the_judge_rests_on_nothing_of_the_recovery() {
     }
 }
 
-/// So that the test above looks at all there is.
+/// It shares the tests of the header, the row reader and test 6 with the reader of jobs, and nothing with what comes behind it.
+#[test]
+fn the_form_check_rests_on_the_reader_alone() {
+    let form = below("form_check");
+    for name in RECOVERY.into_iter().chain(["recovery", "problem", "judge"]) {
+        assert!(!form.contains(name), "the form check uses {name}");
+    }
+    for name in ["job", "header", "rows", "row_search"] {
+        assert!(form.contains(name), "the form check uses {name}");
+    }
+}
+
+/// So that the tests above look at all there is.
 #[test]
 fn every_crate_that_is_used_is_listed() {
     let crates = crates();

@@ -1,9 +1,9 @@
 //! The examples of paper 01 against every implementation.
 
-use hanthuvelo::{hex, Judgement};
+use hanthuvelo::{hex, Form, Judgement, Report};
 use outside_checks::paper::{Example, EXAMPLES, H1_PRINTED, NOT_ANSWERS, REFUSALS};
 use outside_checks::second;
-use outside_checks::{implementations, judges, Implementation};
+use outside_checks::{checkers, implementations, judges, Implementation};
 
 /// Bytes behind the area that the example names, to see that they stay.
 const SURPLUS: usize = 9;
@@ -113,6 +113,27 @@ fn the_refusals_of_the_table_are_those_of_a_judgement() {
         }
         let judged = (judge.judge)(&[], &[]);
         assert_eq!(judged, Judgement::refused(1, 0), "{}", judge.name);
+    }
+}
+
+/// Refusals 1 to 6 are found by a check of the form alone; other jobs of the paper have theirs.
+#[test]
+fn the_form_of_each_example_is_checked() {
+    for checker in checkers() {
+        for example in EXAMPLES.iter().chain(&REFUSALS) {
+            let expected = match example.report {
+                Report {
+                    refusal: number @ 1..=6,
+                    row,
+                    ..
+                } => Form::refused(number, row),
+                _ => Form::ACCEPTED,
+            };
+            let form = (checker.check)(&paper_bytes(example.job));
+            assert_eq!(form, expected, "{} by {}", example.name, checker.name);
+        }
+        let form = (checker.check)(&[]);
+        assert_eq!(form, Form::refused(1, 0), "{}", checker.name);
     }
 }
 

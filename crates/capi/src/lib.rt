@@ -1,10 +1,13 @@
 // The library's exported functions, for callers in C and Rust. include/hanthuvelo.h declares them.
 ghost use mathlib.Core.Path.{_≡_};
+ghost use Rattle.form_check.specs.Reports.{formReportOf};
 ghost use Rattle.format.specs.Outcomes.{writingReportOf};
+ghost use Rattle.job.specs.Form.{formOutcomeOf};
 ghost use Rattle.offered_answer.specs.Judgements.{Judged};
 ghost use Rattle.reciprocal.specs.Reports.{codedReciprocal, reciprocalReportOf};
 ghost use Rattle.recovery.specs.Recovery.{Settled};
 ghost use Rattle.trial.specs.Trial.{Trial};
+use form_check::FormReport;
 use format::Report;
 use format::Writing;
 use format::WritingReport;
@@ -72,4 +75,13 @@ pub extern "C" fn hanthuvelo_judge(job: &[u8], answer: &[u8]) -> JudgementReport
 {
     let judgement = offered_answer::judge_answer(job, answer);
     offered_answer::reported(judgement)
+}
+
+// Any job: the caller owes nothing. The report is that of the first of tests 1 to 6 that applies, zeros where none does.
+#[no_mangle]
+pub extern "C" fn hanthuvelo_check(job: &[u8]) -> FormReport
+    ensures { λ r. ⌜ r ≡ formReportOf (formOutcomeOf (now (job .entry))) ⌝ }
+{
+    let outcome = form_check::check(job);
+    form_check::reported(outcome)
 }

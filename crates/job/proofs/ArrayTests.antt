@@ -2,7 +2,7 @@
 use mathlib.Core.Bool.{_||_}
 use mathlib.Core.List.{List}
 use mathlib.Core.Path.{_≡_, ap, ap₂, _∙_}
-use Prim.Native.Nat.{ℕ, _+_, _*_}
+use Prim.Native.Nat.{ℕ, _+_, _*_, _<_}
 use native.Mathlib.Omega.{arith}
 use lib.Dec.{leb, eqb}
 use lib.ListN.{getD}
@@ -10,7 +10,7 @@ use Rattle.field.specs.Primes.{modulusOf}
 use Rattle.format.specs.declared.Bounds.{Bounds}
 use Rattle.row_search.specs.declared.Found.{Found}
 use Rattle.header.specs.Header.{boundsOf}
-use Rattle.rows.specs.Rows.{jobPoints, jobValues}
+use Rattle.rows.specs.Rows.{jobPoint, jobPoints, jobValues}
 use Rattle.job.specs.Refusals.{outOfRange, repeatedPoint}
 use Rattle.row_search.specs.Search.{firstBelow, anyBelow, isFound}
 use Rattle.row_search.proofs.FirstBelow.{first-cong}
@@ -28,11 +28,11 @@ module _ (s : List ℕ) where
       ap₂ _||_ (ap (leb p) (points-at s r l))
       (ap isFound (first-cong (boundsOf s .outputs) _ _ (λ i m. ap (leb p) (values-at s r i l m))))
 
-  repeated-same : firstBelow (boundsOf s .rows) (λ r. anyBelow r (λ q. eqb (getD (jobPoints s) q 0) (getD (jobPoints s) r 0)))
-      ≡ firstBelow (boundsOf s .rows) (repeatedPoint s)
-  repeated-same =
-      first-cong (boundsOf s .rows) _ _ λ r l.
-      ap isFound (first-cong r _ _ (λ q m. ap₂ eqb (points-at s q (omega arith)) (points-at s r l)))
+  -- whatever stands behind the rows' points
+  pub repeated-same : (points : List ℕ) → ((r : ℕ) → r < boundsOf s .rows → getD points r 0 ≡ jobPoint s r)
+      → firstBelow (boundsOf s .rows) (λ r. anyBelow r (λ q. eqb (getD points q 0) (getD points r 0))) ≡ firstBelow (boundsOf s .rows) (repeatedPoint s)
+  repeated-same points same =
+      first-cong (boundsOf s .rows) _ _ λ r l. ap isFound (first-cong r _ _ (λ q m. ap₂ eqb (same q (omega arith)) (same r l)))
 
   module _ {b : Bounds} {points : List ℕ} (bounds : b ≡ boundsOf s) (rows : points ≡ jobPoints s) where
     -- the same with what the code has at hand
@@ -43,4 +43,4 @@ module _ (s : List ℕ) where
 
     pub first-repeated : {f : Found} → f ≡ firstBelow (b .rows) (λ r. anyBelow r (λ q. eqb (getD points q 0) (getD points r 0)))
         → f ≡ firstBelow (boundsOf s .rows) (repeatedPoint s)
-    first-repeated h = h ∙ simp (bounds, rows) repeated-same
+    first-repeated h = h ∙ simp (bounds, rows) (repeated-same (jobPoints s) (points-at s))

@@ -3,7 +3,7 @@ use mathlib.Core.Bool.{true, false}
 use mathlib.Core.List.{List}
 use mathlib.Core.Path.{_≡_, refl}
 use Prim.Native.Nat.{ℕ}
-use Rattle.format.specs.declared.Reason.the-variants.{TooShort, SpareBit, ByteCount, TooFewRows, OutOfRange, RepeatedPoint, AreaTooShort}
+use Rattle.format.specs.declared.Reason.the-variants.{TooShort, TooFewRows, OutOfRange, RepeatedPoint, AreaTooShort}
 use Rattle.format.specs.declared.Outcome.the-variants.{Accepted, Refused}
 use Rattle.row_search.specs.declared.Found.the-variants.{At, Nothing}
 use Rattle.header.specs.Header.{boundsOf}
@@ -40,26 +40,16 @@ module _ (s : List ℕ) (area : ℕ) where
       unfolding outcomeOfRows
       accepted e = rw (not-5, not-6, e) refl
 
-  -- tests 1 to 4
+  -- tests 1 and 4
   pub at-1 : tooShort s ≡ true → outcomeOf s area ≡ Refused TooShort 0
   unfolding outcomeOf
   at-1 e = rw e refl
 
-  module _ (not-1 : tooShort s ≡ false) where
-    pub at-2 : spareBitIsOne s ≡ true → outcomeOf s area ≡ Refused SpareBit 0
+  module _ (not-1 : tooShort s ≡ false) (not-2 : spareBitIsOne s ≡ false) (not-3 : byteCountDiffers s ≡ false) where
+    pub at-4 : tooFewRows s ≡ true → outcomeOf s area ≡ Refused TooFewRows 0
     unfolding outcomeOf
-    at-2 e = rw (not-1, e) refl
+    at-4 e = rw (not-1, not-2, not-3, e) refl
 
-    module _ (not-2 : spareBitIsOne s ≡ false) where
-      pub at-3 : byteCountDiffers s ≡ true → outcomeOf s area ≡ Refused ByteCount 0
-      unfolding outcomeOf
-      at-3 e = rw (not-1, not-2, e) refl
-
-      module _ (not-3 : byteCountDiffers s ≡ false) where
-        pub at-4 : tooFewRows s ≡ true → outcomeOf s area ≡ Refused TooFewRows 0
-        unfolding outcomeOf
-        at-4 e = rw (not-1, not-2, not-3, e) refl
-
-        pub past-4 : tooFewRows s ≡ false → outcomeOf s area ≡ outcomeOfRows s area
-        unfolding outcomeOf
-        past-4 e = rw (not-1, not-2, not-3, e) refl
+    pub past-4 : tooFewRows s ≡ false → outcomeOf s area ≡ outcomeOfRows s area
+    unfolding outcomeOf
+    past-4 e = rw (not-1, not-2, not-3, e) refl

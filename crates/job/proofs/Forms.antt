@@ -17,6 +17,7 @@ use Rattle.row_search.specs.declared.Found.{Found}
 use Rattle.row_search.specs.declared.Found.the-variants.{At, Nothing}
 use Rattle.row_search.specs.Search.{ifHolds, firstBelow}
 use Rattle.header.specs.Header.{boundsOf}
+use Rattle.job.specs.Form.{firstTests, formOutcomeOf}
 use Rattle.job.specs.Refusals.{
   tooShort,
   spareBitIsOne,
@@ -42,7 +43,7 @@ refuse-decisive Given reason (At row) tests given d = inl (reason, row, given, �
 refuse-decisive Given reason Nothing tests given d = d
 
 -- the reasons of tests 1 to 6
-abbrev OfForm : Reason → Type 0
+abbrev pub OfForm : Reason → Type 0
 OfForm reason = (0 < numberOf reason) × (numberOf reason < 7)
 
 module _ (s : List ℕ) where
@@ -56,16 +57,7 @@ module _ (s : List ℕ) where
       ((reason : Reason) × (row : ℕ) × OfForm reason × ((area : ℕ) → outcomeOf s area ≡ Refused reason row))
       ⊎ ((area : ℕ) → outcomeOf s area ≡ lastTest area)
 
-  -- tests 1 to 6, and then what the later ones say
-  abbrev firstTests : Outcome → Outcome
-  firstTests later =
-      refuse TooShort (ifHolds (tooShort s) 0)
-      (refuse SpareBit (ifHolds (spareBitIsOne s) 0)
-      (refuse ByteCount (ifHolds (byteCountDiffers s) 0)
-      (refuse TooFewRows (ifHolds (tooFewRows s) 0)
-      (refuse OutOfRange (firstBelow (boundsOf s .rows) (outOfRange s)) (refuse RepeatedPoint (firstBelow (boundsOf s .rows) (repeatedPoint s)) later)))))
-
-  first-decisive : Decisive OfForm firstTests
+  first-decisive : Decisive OfForm (firstTests s)
   first-decisive =
       refuse-decisive OfForm TooShort (ifHolds (tooShort s) 0) _ (omega arith)
       (refuse-decisive OfForm SpareBit (ifHolds (spareBitIsOne s) 0) _ (omega arith)
@@ -78,7 +70,7 @@ module _ (s : List ℕ) where
   unfolding outcomeOf outcomeOfRows
   by-form = by first-decisive
     where
-      by : Decisive OfForm firstTests → ByForm
+      by : Decisive OfForm (firstTests s) → ByForm
       by (inl d) = inl (d .0, d .1, d .2, λ area. d .3 (lastTest area))
       by (inr d) = inr (λ area. d (lastTest area))
 
@@ -97,6 +89,24 @@ module _ (s : List ℕ) where
       by : ByForm → (outcomeOf s area ≡ Accepted) ⊎ ((reason : Reason) × (row : ℕ) × (outcomeOf s area ≡ Refused reason row))
       by (inl refused) = inr (refused .0, refused .1, refused .3 area)
       by (inr passed) = last (areaTooShort s area) (passed area)
+
+  -- a check for form says what the tests say with an area just as long as the answer
+  pub form-outcome : formOutcomeOf s ≡ outcomeOf s (answerLengthOf (boundsOf s))
+  unfolding formOutcomeOf outcomeOf outcomeOfRows
+  form-outcome = ap (firstTests s) (sym (long-enough (answerLengthOf (boundsOf s)) (le-refl _)))
+
+  -- a check for form and the tests with an area refuse the job alike, with one of 1 to 6; or the check accepts it, and test 7 decides
+  abbrev pub Alike : ℕ → Type 0
+  Alike area =
+      ((reason : Reason) × (row : ℕ) × OfForm reason × (formOutcomeOf s ≡ Refused reason row) × (outcomeOf s area ≡ Refused reason row))
+      ⊎ ((formOutcomeOf s ≡ Accepted) × (outcomeOf s area ≡ lastTest area))
+
+  pub check-alike : (area : ℕ) → Alike area
+  check-alike area = by by-form
+    where
+      by : ByForm → Alike area
+      by (inl refused) = inl (refused .0, refused .1, refused .2, form-outcome ∙ refused .3 (answerLengthOf (boundsOf s)), refused .3 area)
+      by (inr passed) = inr (form-outcome ∙ passed (answerLengthOf (boundsOf s)) ∙ long-enough _ (le-refl _), passed area)
 
   -- areas that are long enough
   pub form-same : (area : ℕ) → 254 ≤ area → outcomeOf s area ≡ outcomeOf s (answerLengthOf (boundsOf s))

@@ -1,5 +1,6 @@
 pub mod ArrayTests
 pub mod Deciding
+pub mod HeaderChecks
 pub mod Pigeonhole
 pub mod Facts
 pub mod Laws

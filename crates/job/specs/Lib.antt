@@ -1,2 +1,3 @@
 pub mod Refusals
+pub mod Form
 pub mod Reading

@@ -4,13 +4,12 @@ ghost use lib.ListN.{length};
 ghost use Rattle.header.specs.Header.{boundsOf, jobLengthOf, Narrow};
 ghost use Rattle.job.specs.Refusals.{outcomeOfRows};
 ghost use Rattle.job.specs.Reading.{refusedReading, readingWith, readingOf};
+use crate::header_check::HeaderCheck;
+use crate::header_check::check_header;
 use field::Prime;
 use format::Bounds;
 use format::Outcome;
 use format::Reason;
-use header::job_length;
-use header::read_header;
-use header::rows_needed;
 use row_search::Found;
 use row_search::first_out_of_range;
 use row_search::first_repeated;
@@ -62,13 +61,13 @@ fn read_body(job: &[u8], bounds: Bounds, area: usize) -> Reading
     let rows = read_rows(job, count, outputs);
     let points = rows.points;
     let values = rows.values;
-    match first_out_of_range(points, values, count, outputs, p) {
+    match first_out_of_range(&points, &values, count, outputs, p) {
         Found::At(row) => {
             return refused(Reason::OutOfRange, row);
         }
         Found::Nothing => {}
     }
-    match first_repeated(points, count) {
+    match first_repeated(&points, count) {
         Found::At(row) => {
             return refused(Reason::RepeatedPoint, row);
         }
@@ -90,19 +89,8 @@ fn read_body(job: &[u8], bounds: Bounds, area: usize) -> Reading
 pub fn read(job: &[u8], area: usize) -> Reading
     ensures { λ r. ⌜ r ≡ readingOf (now (job .entry)) area ⌝ }
 {
-    if job.len() < 3 {
-        return refused(Reason::TooShort, 0);
+    match check_header(job) {
+        HeaderCheck::Refused(reason) => refused(reason, 0),
+        HeaderCheck::Passed(bounds) => read_body(job, bounds, area),
     }
-    let header = read_header(job);
-    let bounds = header.bounds;
-    if header.spare == 1 {
-        return refused(Reason::SpareBit, 0);
-    }
-    if job.len() != job_length(bounds) {
-        return refused(Reason::ByteCount, 0);
-    }
-    if bounds.rows < rows_needed(bounds) {
-        return refused(Reason::TooFewRows, 0);
-    }
-    read_body(job, bounds, area)
 }

@@ -19,6 +19,10 @@ nothing-both (At i) b n e = absurd (at-not-nothing e)
 nothing-both Nothing true n e = absurd (at-not-nothing e)
 nothing-both Nothing false n e = (refl, refl)
 
+or-nothing : (f : Found) → orElse f Nothing ≡ f
+or-nothing (At i) = refl
+or-nothing Nothing = refl
+
 not-found : (f : Found) → isFound f ≡ false → f ≡ Nothing
 not-found (At i) e = clash e
 not-found Nothing e = refl
@@ -89,6 +93,15 @@ module _ (test : ℕ → Bool) where
     where
       below : (j : ℕ) → j < i → j ≡ i → ⊥
       below j m e = omega arith
+
+-- numbers that fail the test do not count
+pub first-shorter : (test : ℕ → Bool) (m n : ℕ) → n ≤ m → ((k : ℕ) → n ≤ k → k < m → test k ≡ false) → firstBelow m test ≡ firstBelow n test
+unfolding firstBelow
+first-shorter test zero n l none = let e : n ≡ 0 = omega arith in rw e refl
+first-shorter test (suc m) n l none =
+    ⊎-elim (λ (e : n ≡ suc m). rw e refl)
+    (λ (lower : n < suc m). rw (first-shorter test m n (omega arith) (λ k a b. none k a (omega arith)), none m (omega arith) (omega arith)) (or-nothing (firstBelow n test)))
+    (eq-or-lt-of-le l)
 
 -- tests that agree below the bound find the same
 pub first-cong : (n : ℕ) (t u : ℕ → Bool) → ((i : ℕ) → i < n → t i ≡ u i) → firstBelow n t ≡ firstBelow n u

@@ -1,1 +1,2 @@
 pub mod FirstBelow
+pub mod Distinct

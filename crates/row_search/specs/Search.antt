@@ -1,6 +1,9 @@
 -- Searches among the numbers below a bound.
-use Prim.Native.Nat.{ℕ, zero, suc}
+use Prim.Native.Nat.{ℕ, zero, suc, _<_}
 use mathlib.Core.Bool.{Bool, true, false}
+use mathlib.Core.List.{List}
+use mathlib.Core.Path.{_≡_}
+use lib.ListN.{getD}
 use Rattle.row_search.specs.declared.Found.{Found}
 use Rattle.row_search.specs.declared.Found.the-variants.{At, Nothing}
 
@@ -26,3 +29,7 @@ isFound Nothing = false
 -- whether one of 0, 1, .., n - 1 passes the test
 abbrev pub anyBelow : ℕ → (ℕ → Bool) → Bool
 anyBelow n test = isFound (firstBelow n test)
+
+-- no two of the first n numbers are the same
+abbrev pub Distinct : List ℕ → ℕ → Type 0
+Distinct a n = (q r : ℕ) → q < r → r < n → getD a q 0 ≡ getD a r 0 → ⊥

@@ -3,17 +3,17 @@ use mathlib.Core.Bool.{cond}
 use mathlib.Core.List.{List}
 use mathlib.Core.Logic.{_⊎_, inl, inr}
 use mathlib.Core.Path.{_≡_, refl, sym, ap, ap₂, subst, _∙_}
-use Prim.Native.Nat.{ℕ, suc, _+_, _*_, _/_, _%_, _≤_, _<_}
+use Prim.Native.Nat.{ℕ, suc, _+_, _-_, _*_, _/_, _%_, _≤_, _<_}
 use native.Mathlib.Nat.{mul-assoc, suc-mul, mul-le-mul-right, add-assoc}
 use native.Mathlib.Omega.{arith}
 use borrow.Author.Tests.{lt-ltb, le-ltb}
 use lib.Dec.{ltb}
-use lib.ListN.{getD, take, drop}
+use lib.ListN.{getD, set, take, drop}
 use lib.Seq.{getD-take, getD-drop}
 use Rattle.format.specs.Numbers.{numberFrom}
 use Rattle.header.specs.Header.{boundsOf}
 use Rattle.rows.specs.Rows.{numberAt, valueOrZero}
-use Rattle.rows.specs.Steps.{rowOf, rowAt, setFour}
+use Rattle.rows.specs.Steps.{rowOf, rowAt}
 use Rattle.lists.proofs.Tabulated.{at-tabulate, tabulate-cong}
 use Rattle.lists.proofs.Filling.{Filled, filled-more}
 use Rattle.lists.proofs.Order.{lt-or-ge}
@@ -49,17 +49,23 @@ module _ (s : List ℕ) (r : ℕ) where
   unfolding rowOf rowAt
   row-here = λ i. record { point = column 0 (omega arith) i; values = tabulate-cong 4 _ _ (λ k l. value k (lt-or-ge k (boundsOf s .outputs))) i }
 
-  -- the row's own bytes are the row
-  pub row-part : (n : ℕ) → n ≡ boundsOf s .outputs → rowOf (take (2 * (1 + n)) (drop (3 + 2 * (r * (1 + n))) s)) n ≡ rowAt s r
+  -- the row's own bytes, from its start to its end, are the row
+  pub row-part : (n : ℕ) → n ≡ boundsOf s .outputs
+      → rowOf (take (3 + 2 * (r * (1 + n)) + 2 * (1 + n) - (3 + 2 * (r * (1 + n)))) (drop (3 + 2 * (r * (1 + n))) s)) n ≡ rowAt s r
   unfolding part
-  row-part n e = subst (λ (m : ℕ). rowOf (take (2 * (1 + m)) (drop (3 + 2 * (r * (1 + m))) s)) m ≡ rowAt s r) (sym e) row-here
+  row-part n e =
+      let size : 3 + 2 * (r * (1 + n)) + 2 * (1 + n) - (3 + 2 * (r * (1 + n))) ≡ 2 * (1 + n) = omega arith in
+      rw size (subst (λ (m : ℕ). rowOf (take (2 * (1 + m)) (drop (3 + 2 * (r * (1 + m))) s)) m ≡ rowAt s r) (sym e) row-here)
 
   -- the row's values, by their places among the values of all rows
   pub row-values : (i : ℕ) → i < 4 → getD (rowAt s r .values) i 0 ≡ valueOrZero s ((r * 4 + i) / 4) ((r * 4 + i) % 4)
   unfolding rowAt
   row-values i l = at-tabulate 4 (valueOrZero s r) i l ∙ ap₂ (valueOrZero s) (omega arith) (omega arith)
 
--- four stores
+-- v's first four entries, stored from place k on
+abbrev setFour : List ℕ → ℕ → List ℕ → List ℕ
+setFour l k v = set (set (set (set l k (getD v 0 0)) (k + 1) (getD v 1 0)) (k + 2) (getD v 2 0)) (k + 3) (getD v 3 0)
+
 pub fill-four : {n : ℕ} {f g : ℕ → ℕ} {k : ℕ} {r : List ℕ} → Filled n f g k r → (v : List ℕ) → k + 4 ≤ n
     → ((i : ℕ) → i < 4 → getD v i 0 ≡ f (k + i)) → Filled n f g (k + 4) (setFour r k v)
 fill-four {f = f} {k = k} h v l same =

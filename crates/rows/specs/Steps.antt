@@ -3,7 +3,6 @@ use Prim.Native.Nat.{ℕ, _+_, _*_}
 use mathlib.Core.Bool.{cond}
 use mathlib.Core.List.{List}
 use lib.Dec.{ltb}
-use lib.ListN.{getD, set}
 use Rattle.format.specs.Numbers.{numberFrom}
 use Rattle.rows.specs.declared.Row.{Row}
 use Rattle.rows.specs.Rows.{jobPoint, valueOrZero}
@@ -16,7 +15,3 @@ rowAt s r = record { point = jobPoint s r; values = tabulate 4 (valueOrZero s r)
 -- "Each row is examined through its own stretch": a row from its own bytes and the number of outputs
 unfoldable pub rowOf : List ℕ → ℕ → Row
 rowOf bytes n = record { point = numberFrom bytes 0; values = tabulate 4 (λ i. cond (ltb i n) (numberFrom bytes (2 * (1 + i))) 0) }
-
--- v's first four entries, stored from place k on
-abbrev pub setFour : List ℕ → ℕ → List ℕ → List ℕ
-setFour l k v = set (set (set (set l k (getD v 0 0)) (k + 1) (getD v 1 0)) (k + 2) (getD v 2 0)) (k + 3) (getD v 3 0)

@@ -1,12 +1,14 @@
 // The rows of a job: a point and the values of the outputs, 16 bits a number.
 ghost use Prim.Native.Nat.{_+_, _*_, _<_, _≤_};
 ghost use mathlib.Core.Path.{_≡_};
-ghost use lib.ListN.{length, set};
+ghost use lib.ListN.{length};
 ghost use Rattle.format.specs.Numbers.{numberFrom};
 ghost use Rattle.header.specs.Header.{boundsOf};
 ghost use Rattle.rows.specs.Rows.{jobPoints, jobValues};
-ghost use Rattle.rows.specs.Steps.{rowOf, rowAt, setFour};
+ghost use Rattle.rows.specs.Steps.{rowOf, rowAt};
 use cursor::wide;
+use row_word::part;
+use row_word::word_from;
 
 pub struct Row {
     pub point: u32,
@@ -27,9 +29,29 @@ pub fn number_from(s: &[u8], k: usize) -> u32
     wide(s[k]) * 256 + wide(s[k + 1])
 }
 
-// A row from its own bytes.
-fn read_row(bytes: &[u8], outputs: usize) -> Row
-    requires { ⌜ (outputs ≤ 4) × (length (now bytes) ≡ 2 * (1 + outputs)) ⌝ }
+// A row of four or five numbers: the first four from one word, the one left over singly.
+fn read_long_row(bytes: &[u8], outputs: usize) -> Row
+    requires { ⌜ (3 ≤ outputs) × (outputs ≤ 4) × (length (now bytes) ≡ 2 * (1 + outputs)) ⌝ }
+    ensures { λ r. ⌜ r ≡ rowOf (now (bytes .entry)) outputs ⌝ }
+{
+    let word = word_from(bytes);
+    let point = part(word, 0);
+    let mut values = [0u32; 4];
+    values[0] = part(word, 1);
+    values[1] = part(word, 2);
+    values[2] = part(word, 3);
+    if outputs == 4 {
+        values[3] = number_from(bytes, 8);
+    }
+    Row {
+        point: point,
+        values: values,
+    }
+}
+
+// A row of two or three numbers, read singly.
+fn read_short_row(bytes: &[u8], outputs: usize) -> Row
+    requires { ⌜ (outputs < 3) × (length (now bytes) ≡ 2 * (1 + outputs)) ⌝ }
     ensures { λ r. ⌜ r ≡ rowOf (now (bytes .entry)) outputs ⌝ }
 {
     let point = number_from(bytes, 0);
@@ -43,8 +65,19 @@ fn read_row(bytes: &[u8], outputs: usize) -> Row
     }
 }
 
+// A row from its own bytes.
+fn read_row(bytes: &[u8], outputs: usize) -> Row
+    requires { ⌜ (outputs ≤ 4) × (length (now bytes) ≡ 2 * (1 + outputs)) ⌝ }
+    ensures { λ r. ⌜ r ≡ rowOf (now (bytes .entry)) outputs ⌝ }
+{
+    if outputs < 3 {
+        return read_short_row(bytes, outputs);
+    }
+    read_long_row(bytes, outputs)
+}
+
 // Row r of the job, read through its own bytes.
-fn row_at(job: &[u8], r: usize, rows: usize, outputs: usize) -> Row
+pub fn row_at(job: &[u8], r: usize, rows: usize, outputs: usize) -> Row
     requires { ⌜ (r < rows) × (rows ≤ 31) × (outputs ≤ 4) × (length (now job) ≡ 3 + 2 * rows * (1 + outputs)) ⌝ }
     requires { ⌜ outputs ≡ boundsOf (now job) .outputs ⌝ }
     ensures { λ row. ⌜ row ≡ rowAt (now (job .entry)) r ⌝ }
@@ -54,36 +87,26 @@ fn row_at(job: &[u8], r: usize, rows: usize, outputs: usize) -> Row
     read_row(&job[from..to], outputs)
 }
 
-impl Rows {
-    // With a row in place r.
-    fn with_row(mut self, r: usize, row: Row) -> Rows
-        requires { ⌜ r < 32 ⌝ }
-        ensures { λ x. ⌜ (x .points ≡ set (self .points) r (row .point)) × (x .values ≡ setFour (self .values) (r * 4) (row .values)) ⌝ }
-    {
-        let v = row.values;
-        let at = r * 4;
-        self.points[r] = row.point;
-        self.values[at] = v[0];
-        self.values[at + 1] = v[1];
-        self.values[at + 2] = v[2];
-        self.values[at + 3] = v[3];
-        self
-    }
-}
-
 // All rows of a job whose length fits its header.
 pub fn read_rows(job: &[u8], rows: usize, outputs: usize) -> Rows
     requires { ⌜ (rows ≤ 31) × (outputs ≤ 4) × (length (now job) ≡ 3 + 2 * rows * (1 + outputs)) ⌝ }
     requires { ⌜ (rows ≡ boundsOf (now job) .rows) × (outputs ≡ boundsOf (now job) .outputs) ⌝ }
     ensures { λ x. ⌜ (x .points ≡ jobPoints (now (job .entry))) × (x .values ≡ jobValues (now (job .entry))) ⌝ }
 {
-    let mut all = Rows {
-        points: [0u32; 32],
-        values: [0u32; 128],
-    };
+    let mut points = [0u32; 32];
+    let mut values = [0u32; 128];
     for r in 0..rows {
         let row = row_at(job, r, rows, outputs);
-        all = all.with_row(r, row);
+        let v = row.values;
+        let at = r * 4;
+        points[r] = row.point;
+        values[at] = v[0];
+        values[at + 1] = v[1];
+        values[at + 2] = v[2];
+        values[at + 3] = v[3];
     }
-    all
+    Rows {
+        points: points,
+        values: values,
+    }
 }

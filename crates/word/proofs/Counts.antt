@@ -1,8 +1,9 @@
 -- Laws of how many numbers below a bound pass a test.
-use Prim.Native.Nat.{ℕ, zero, suc, _+_, _<_}
+use Prim.Native.Nat.{ℕ, zero, suc, _+_, _≤_, _<_}
 use mathlib.Core.Path.{_≡_, refl, sym, ap, ap₂, _∙_}
-use mathlib.Core.Bool.{Bool, false}
-use mathlib.Core.Logic.{_≢_}
+use mathlib.Core.Bool.{Bool, true, false}
+use mathlib.Core.Logic.{_≢_, ⊎-elim}
+use native.Mathlib.Nat.{eq-or-lt-of-le}
 use native.Mathlib.Decide.{ℕ-discrete}
 use native.Mathlib.Omega.{arith}
 use Rattle.word.specs.Word.{flagOf, countBelow}
@@ -31,3 +32,33 @@ count-change test test' (suc m) j h same none = by (ℕ-discrete j m) (λ l. cou
         let before = ih (omega arith) in
         let last : flagOf (test m) ≡ flagOf (test' m) = ap flagOf (same m (omega arith) (λ e. ne (sym e))) in
         omega arith
+
+-- one place more
+pub count-step : (n : ℕ) (test : ℕ → Bool) → countBelow (n + 1) test ≡ countBelow n test + flagOf (test n)
+unfolding countBelow
+count-step n test = let e : n + 1 ≡ suc n = omega arith in rw e refl
+
+flag-most : (b : Bool) → flagOf b ≤ 1
+flag-most true = omega arith
+flag-most false = omega arith
+
+-- no more than there are
+pub count-most : (n : ℕ) (test : ℕ → Bool) → countBelow n test ≤ n
+unfolding countBelow
+count-most zero test = omega arith
+count-most (suc n) test = omega (arith, count-most n test, flag-most (test n))
+
+-- one place that passes, and two
+pub count-one : (test : ℕ → Bool) (n i : ℕ) → i < n → test i ≡ true → 1 ≤ countBelow n test
+unfolding countBelow
+count-one test zero i l e = absurd (omega arith)
+count-one test (suc n) i l e =
+    ⊎-elim (λ (same : i ≡ n). let last = ap flagOf (ap test (sym same) ∙ e) in omega arith)
+    (λ (lower : i < n). let before = count-one test n i lower e in omega arith) (eq-or-lt-of-le (omega arith))
+
+pub count-two : (test : ℕ → Bool) (n i j : ℕ) → i < j → j < n → test i ≡ true → test j ≡ true → 2 ≤ countBelow n test
+unfolding countBelow
+count-two test zero i j l m e f = absurd (omega arith)
+count-two test (suc n) i j l m e f =
+    ⊎-elim (λ (same : j ≡ n). let last = ap flagOf (ap test (sym same) ∙ f) in let before = count-one test n i (omega arith) e in omega arith)
+    (λ (lower : j < n). let before = count-two test n i j l lower e f in omega arith) (eq-or-lt-of-le (omega arith))

@@ -115,6 +115,16 @@ pub fn file(folder: &Path, name: &str, bytes: &[u8]) -> String {
     path.to_str().expect("a plain name").to_string()
 }
 
+/// The names of the example jobs, as a folder's files are taken.
+pub fn example_names() -> Vec<String> {
+    let entries = fs::read_dir(format!("{ROOT}/examples")).expect("the examples");
+    let names = entries.map(|entry| entry.expect("an example").file_name());
+    let names = names.map(|name| name.into_string().expect("a name"));
+    let mut names: Vec<String> = names.filter(|name| name.ends_with(".job")).collect();
+    names.sort();
+    names
+}
+
 /// The length of the job that bytes begin with, counted from paper 01's formula.
 pub fn length_by_header(bytes: &[u8]) -> Option<usize> {
     let (first, second) = (*bytes.first()?, *bytes.get(1)?);

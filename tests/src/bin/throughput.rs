@@ -1,6 +1,6 @@
-//! Measures `hanthuvelo recover --stream --bytes` over many full jobs, to a file, on one core and on
-//! two, beside the bare calls of the library on one: `cargo build --offline --release`, then
-//! `build/release/throughput`.
+//! Measures `hanthuvelo recover --stream --bytes` and `hanthuvelo check --stream --refused` over many
+//! full jobs, to a file, on one core and on two, beside the bare calls of the library on one:
+//! `cargo build --offline --release`, then `build/release/throughput`.
 
 use outside_checks::jobs::measured::{generate, Size};
 use std::fs::{self, File};
@@ -12,6 +12,14 @@ use std::time::Instant;
 const SEED: u64 = 11;
 const JOBS: u64 = 100_000;
 const ROUNDS: usize = 7;
+
+/// What the command does with all jobs, beside bare calls that do the same.
+struct Work {
+    words: [&'static str; 3],
+    bare: fn(&[Vec<u8>]) -> f64,
+    /// What the command writes.
+    output: Vec<u8>,
+}
 
 /// A folder that is removed in the end.
 struct Folder(PathBuf);
@@ -39,37 +47,60 @@ fn main() -> Result<(), String> {
         .map(|index| generate(SEED, index, Size::FULL).pack())
         .collect();
     fs::write(folder.0.join("jobs"), jobs.concat()).map_err(error)?;
-    let answers = bare_answers(&jobs);
+    println!("{JOBS} full jobs (31 rows, four outputs, 65521), best and middle of {ROUNDS} rounds that take turns");
+    let recover = Work {
+        words: ["recover", "--stream", "--bytes"],
+        bare: recover_seconds,
+        output: bare_answers(&jobs),
+    };
+    let check = Work {
+        words: ["check", "--stream", "--refused"],
+        bare: check_seconds,
+        output: Vec::new(),
+    };
+    for work in [recover, check] {
+        show(&work, &mut measure(&work, &jobs, &command, &folder.0)?);
+    }
+    Ok(())
+}
+
+/// The seconds of the bare calls, and of the command on one core and on two.
+fn measure(
+    work: &Work,
+    jobs: &[Vec<u8>],
+    command: &Path,
+    folder: &Path,
+) -> Result<[Vec<f64>; 3], String> {
     let mut times = [const { Vec::new() }; 3];
     for _ in 0..ROUNDS {
-        times[0].push(bare_seconds(&jobs));
+        times[0].push((work.bare)(jobs));
         for (threads, times) in times.iter_mut().enumerate().skip(1) {
-            times.push(command_seconds(&command, &folder.0, threads)?);
-            let written = fs::read(folder.0.join("answers")).map_err(error)?;
-            if written != answers {
+            times.push(command_seconds(command, work.words, folder, threads)?);
+            let written = fs::read(folder.join("output")).map_err(|error| error.to_string())?;
+            if written != work.output {
                 return Err(format!(
                     "{threads} threads: other bytes than the bare calls"
                 ));
             }
         }
     }
-    show(&mut times);
-    Ok(())
+    Ok(times)
 }
 
-fn show(times: &mut [Vec<f64>; 3]) {
+fn show(work: &Work, times: &mut [Vec<f64>; 3]) {
     let [bare, one, two] = times.each_mut().map(|rounds| {
         rounds.sort_by(f64::total_cmp);
         (rounds[0], rounds[ROUNDS / 2])
     });
-    println!("{JOBS} full jobs (31 rows, four outputs, 65521), best and middle of {ROUNDS} rounds that take turns");
     let line = |name: &str, (best, middle): (f64, f64)| {
         let rate = JOBS as f64 / best;
-        println!("{name:<42} best {best:.3} s  middle {middle:.3} s  {rate:>7.0} jobs a second");
+        println!("{name:<42} best {best:.4} s  middle {middle:.4} s  {rate:>9.0} jobs a second");
     };
+    let words = work.words.join(" ");
+    println!();
     line("bare calls, one core", bare);
-    line("recover --stream --bytes, one core", one);
-    line("recover --stream --bytes, two cores", two);
+    line(&format!("{words}, one core"), one);
+    line(&format!("{words}, two cores"), two);
     println!(
         "one core against the bare calls: {:.2} times their time",
         one.0 / bare.0
@@ -92,7 +123,7 @@ fn bare_answers(jobs: &[Vec<u8>]) -> Vec<u8> {
     answers
 }
 
-fn bare_seconds(jobs: &[Vec<u8>]) -> f64 {
+fn recover_seconds(jobs: &[Vec<u8>]) -> f64 {
     let mut area = vec![0; Size::FULL.answer_length()];
     let start = Instant::now();
     for job in jobs {
@@ -101,13 +132,27 @@ fn bare_seconds(jobs: &[Vec<u8>]) -> f64 {
     start.elapsed().as_secs_f64()
 }
 
+fn check_seconds(jobs: &[Vec<u8>]) -> f64 {
+    let start = Instant::now();
+    for job in jobs {
+        assert!(hanthuvelo::check(black_box(job)).is_accepted());
+    }
+    start.elapsed().as_secs_f64()
+}
+
 /// From the start of the process to its end.
-fn command_seconds(command: &Path, folder: &Path, threads: usize) -> Result<f64, String> {
+fn command_seconds(
+    command: &Path,
+    words: [&str; 3],
+    folder: &Path,
+    threads: usize,
+) -> Result<f64, String> {
     let error = |error: std::io::Error| error.to_string();
-    let output = File::create(folder.join("answers")).map_err(error)?;
+    let output = File::create(folder.join("output")).map_err(error)?;
     let start = Instant::now();
     let status = Command::new(command)
-        .args(["recover", "--stream", "--bytes", "--quiet", "--threads"])
+        .args(words)
+        .args(["--quiet", "--threads"])
         .arg(threads.to_string())
         .arg(folder.join("jobs"))
         .stdout(output)

@@ -66,7 +66,6 @@ fn spare_bit(random: &mut Random) -> GeneratedJob {
     faulty(random, vec![Kind::Refused2], two_faults, bytes, (2, 0))
 }
 
-/// Bytes missing, bytes too many, or another number of rows in the header.
 fn wrong_length(random: &mut Random) -> GeneratedJob {
     let mut bytes = sound_job(random).pack();
     let two_faults = random.once_in(3);
@@ -74,6 +73,12 @@ fn wrong_length(random: &mut Random) -> GeneratedJob {
         // Bounds that ask for more rows than any job has.
         bytes[1] |= 0x7F;
     }
+    change_length(random, &mut bytes);
+    faulty(random, vec![Kind::Refused3], two_faults, bytes, (3, 0))
+}
+
+/// Bytes missing, bytes too many, or another number of rows in the header.
+pub fn change_length(random: &mut Random, bytes: &mut Vec<u8>) {
     match random.below(5) {
         0 => bytes.truncate(bytes.len() - 1),
         1 => bytes.truncate(random.between(3, bytes.len() - 1)),
@@ -84,7 +89,6 @@ fn wrong_length(random: &mut Random) -> GeneratedJob {
         }
         _ => bytes[1] ^= 0x80,
     }
-    faulty(random, vec![Kind::Refused3], two_faults, bytes, (3, 0))
 }
 
 /// Rows are taken away, or df is raised, until one row or more is missing.
@@ -93,11 +97,14 @@ pub fn take_rows(random: &mut Random, job: &mut Job) {
     match random.below(3) {
         0 => job.rows.truncate(needed - 1),
         1 => job.rows.truncate(random.below(needed)),
-        _ => {
-            let least = job.rows.len() - job.denominator_bound - 2 * job.error_bound;
-            job.numerator_bound = random.between(least, 31);
-        }
+        _ => raise_bound(random, job),
     }
+}
+
+/// Raises df until one row or more is missing.
+pub fn raise_bound(random: &mut Random, job: &mut Job) {
+    let least = job.rows.len() - job.denominator_bound - 2 * job.error_bound;
+    job.numerator_bound = random.between(least, 31);
 }
 
 fn too_few_rows(random: &mut Random) -> GeneratedJob {

@@ -8,6 +8,7 @@ mod right;
 mod tally;
 mod too_many;
 
+use super::planned;
 use super::planted::Planted;
 use super::random::Random;
 use crate::layout::{Answer, Job};
@@ -134,7 +135,7 @@ pub struct Pair {
 /// The pair of this number in the run of this seed.
 pub fn generate(seed: u64, index: u64) -> Pair {
     let mut random = Random::new(seed, index);
-    let (kind, turn) = kind_of(index);
+    let (kind, turn) = planned(&PLAN, index);
     let mut pair = match kind {
         Kind::Right(right) => right.pair(&mut random),
         Kind::Word(word) => word.pair(&mut random),
@@ -150,18 +151,6 @@ pub fn generate(seed: u64, index: u64) -> Pair {
     pair.index = index;
     pair.kind = kind;
     pair
-}
-
-/// The kind of a pair, and how many pairs before it have the same.
-fn kind_of(index: u64) -> (Kind, usize) {
-    let (round, mut place) = (index as usize / 100, index as usize % 100);
-    for (kind, parts) in PLAN {
-        if place < parts {
-            return (kind, round * parts + place);
-        }
-        place -= parts;
-    }
-    unreachable!("the plan has 100 parts")
 }
 
 impl Pair {

@@ -138,7 +138,23 @@ pub fn header(random: &mut Random, shape: Shape, wrong: WrongRows) -> Job {
         Shape::LongestAnswer => 4,
         _ => random.between(1, 4),
     };
-    let points = distinct_points(random, prime, row_count);
+    sized(random, (prime_code, outputs, row_count), &least, wrong)
+}
+
+/// The same for a prime's code, a number of outputs and a number of rows, with any bounds that the
+/// rows suffice for.
+pub fn header_of_size(random: &mut Random, size: (usize, usize, usize)) -> Job {
+    let wrong = WrongRows::OneTooMany;
+    sized(random, size, &least(Shape::Any, wrong), wrong)
+}
+
+fn sized(
+    random: &mut Random,
+    (prime_code, outputs, row_count): (usize, usize, usize),
+    least: &Least,
+    wrong: WrongRows,
+) -> Job {
+    let points = distinct_points(random, PRIMES[prime_code], row_count);
     let values = vec![0; outputs];
     let row = |point| Row {
         point,
@@ -153,7 +169,7 @@ pub fn header(random: &mut Random, shape: Shape, wrong: WrongRows) -> Job {
         error_bound: 0,
         rows,
     };
-    draw_bounds(random, &mut job, &least, wrong);
+    draw_bounds(random, &mut job, least, wrong);
     job
 }
 

@@ -1,8 +1,9 @@
 //! Counts of a run, with the floors below which it fails.
 
 use super::GeneratedJob;
-use crate::layout::PRIMES;
+use crate::layout::{MOST_ROWS, PRIMES};
 use hanthuvelo::Report;
+use std::collections::BTreeMap;
 
 /// What a job was made to be.
 #[derive(Clone, Copy, Debug, PartialEq, Eq)]
@@ -75,8 +76,10 @@ pub struct Tally {
     answered_with_pole: usize,
     /// Answered by other polynomials than those with E + 1 wrong rows.
     answered_otherwise: usize,
+    /// Answered, by the prime.
     primes: [usize; 4],
-    outputs: [usize; 4],
+    /// Answered, by the number of outputs and by the number of rows.
+    sizes: [[usize; MOST_ROWS + 1]; 4],
 }
 
 impl Tally {
@@ -91,7 +94,9 @@ impl Tally {
         }
         let error_bound = u32::from(job.bytes[2] >> 1 & 15);
         self.primes[usize::from(job.bytes[0] >> 6)] += 1;
-        self.outputs[usize::from(job.bytes[0] >> 4 & 3)] += 1;
+        let outputs = usize::from(job.bytes[0] >> 4 & 3) + 1;
+        let row_count = (job.bytes.len() - 3) / (2 * (1 + outputs));
+        self.sizes[outputs - 1][row_count] += 1;
         self.all_errors_used += usize::from(error_bound > 0 && report.wrong == error_bound);
         self.answered_with_pole += usize::from(job.kinds.contains(&Kind::Pole));
         self.answered_otherwise += usize::from(job.kinds.contains(&Kind::OneErrorTooMany));
@@ -132,13 +137,12 @@ impl Tally {
         for (prime, &count) in PRIMES.iter().zip(&self.primes) {
             lines.push((format!("answered modulo {prime}"), count, self.floor(80)));
         }
-        for (index, &count) in self.outputs.iter().enumerate() {
-            let outputs = index + 1;
-            lines.push((
-                format!("answered with {outputs} outputs"),
-                count,
-                self.floor(80),
-            ));
+        for (index, row_counts) in self.sizes.iter().enumerate() {
+            let name = format!("answered with {} outputs", index + 1);
+            let of_any_size = row_counts.iter().sum();
+            lines.push((name.clone(), of_any_size, self.floor(80)));
+            let least = least(&row_counts[1..]);
+            lines.push((format!("{name}, least of all L"), least, self.jobs / 2000));
         }
         lines
     }
@@ -146,6 +150,27 @@ impl Tally {
     /// All counts as text, and whether each reaches its floor.
     pub fn summary(&self) -> (String, bool) {
         with_floors(self.outcome_lines().into_iter().chain(self.input_lines()))
+    }
+}
+
+/// The least of these counts, one for each prime or one for each number of rows.
+pub fn least(counts: &[usize]) -> usize {
+    counts.iter().copied().min().unwrap_or(0)
+}
+
+/// Counts by name.
+#[derive(Default)]
+pub struct Counts(BTreeMap<String, usize>);
+
+impl Counts {
+    pub fn add(&mut self, name: &str, applies: bool) {
+        if applies {
+            *self.0.entry(name.to_string()).or_default() += 1;
+        }
+    }
+
+    pub fn of(&self, name: &str) -> usize {
+        self.0.get(name).copied().unwrap_or(0)
     }
 }
 

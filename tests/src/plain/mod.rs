@@ -1,11 +1,13 @@
 //! The library's own method in ordinary Rust without proofs: a third opinion, and the measure of
 //! speed. Fixed arrays, and the prime as a constant of each instance.
 
+mod check;
 mod field;
 mod interpolate;
 mod polynomial;
 mod reader;
 
+pub use check::check;
 use hanthuvelo::Report;
 use interpolate::interpolate;
 use polynomial::Polynomial;
@@ -21,7 +23,7 @@ struct Fraction {
 pub fn recover(job: &[u8], area: &mut [u8]) -> Report {
     let problem = match reader::read(job, area.len()) {
         Ok(problem) => problem,
-        Err(refused) => return refused,
+        Err(refusal) => return Report::refused(refusal.number, refusal.row),
     };
     match problem.prime {
         7 => recover_modulo::<7>(&problem, area),

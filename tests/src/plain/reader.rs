@@ -1,6 +1,32 @@
 //! The job bytes and the refusals 1 to 7, into fixed arrays.
 
-use hanthuvelo::Report;
+pub struct Refusal {
+    pub number: u32,
+    pub row: u32,
+}
+
+impl Refusal {
+    fn new(number: u32) -> Refusal {
+        Refusal { number, row: 0 }
+    }
+
+    pub fn of_row(number: u32, row: usize) -> Refusal {
+        Refusal {
+            number,
+            row: row as u32,
+        }
+    }
+}
+
+/// The fields of a header that the refusals 1 to 4 do not apply to.
+pub struct Header {
+    pub prime: u32,
+    pub outputs: usize,
+    pub row_count: usize,
+    numerator_bound: usize,
+    denominator_bound: usize,
+    error_bound: usize,
+}
 
 /// A well formed job.
 pub struct Problem {
@@ -15,38 +41,49 @@ pub struct Problem {
 }
 
 /// The well formed job that `job` holds, or the refusal.
-pub fn read(job: &[u8], area_length: usize) -> Result<Problem, Report> {
-    if job.len() < 3 {
-        return Err(Report::refused(1, 0));
-    }
-    let mut problem = read_header(job);
-    if job[2] & 1 == 1 {
-        return Err(Report::refused(2, 0));
-    }
-    if job.len() != 3 + 2 * problem.row_count * (1 + problem.outputs) {
-        return Err(Report::refused(3, 0));
-    }
-    let bounds = problem.numerator_bound + problem.denominator_bound;
-    if problem.row_count < bounds + 2 * problem.error_bound + 1 {
-        return Err(Report::refused(4, 0));
-    }
+pub fn read(job: &[u8], area_length: usize) -> Result<Problem, Refusal> {
+    let header = read_header(job)?;
+    let mut problem = Problem {
+        prime: header.prime,
+        outputs: header.outputs,
+        row_count: header.row_count,
+        numerator_bound: header.numerator_bound,
+        denominator_bound: header.denominator_bound,
+        error_bound: header.error_bound,
+        points: [0; 31],
+        values: [[0; 4]; 31],
+    };
     read_rows(&mut problem, job)?;
-    for row in 1..problem.row_count {
-        if problem.points[..row].contains(&problem.points[row]) {
-            return Err(Report::refused(6, row as u32));
-        }
-    }
+    refuse_repeated_point(&problem.points[..problem.row_count])?;
     let numerators = problem.outputs * (problem.numerator_bound + 1);
     if area_length < 4 + 2 * (problem.denominator_bound + 1 + numerators) {
-        return Err(Report::refused(7, 0));
+        return Err(Refusal::new(7));
     }
     Ok(problem)
 }
 
-/// The header's fields, with no rows yet.
-fn read_header(job: &[u8]) -> Problem {
+/// The header, with refusals 1 to 4; the number of bytes is then that of its rows.
+pub fn read_header(job: &[u8]) -> Result<Header, Refusal> {
+    if job.len() < 3 {
+        return Err(Refusal::new(1));
+    }
+    let header = header_fields(job);
+    if job[2] & 1 == 1 {
+        return Err(Refusal::new(2));
+    }
+    if job.len() != 3 + 2 * header.row_count * (1 + header.outputs) {
+        return Err(Refusal::new(3));
+    }
+    let bounds = header.numerator_bound + header.denominator_bound;
+    if header.row_count < bounds + 2 * header.error_bound + 1 {
+        return Err(Refusal::new(4));
+    }
+    Ok(header)
+}
+
+fn header_fields(job: &[u8]) -> Header {
     let (first, second, third) = (job[0] as usize, job[1] as usize, job[2] as usize);
-    Problem {
+    Header {
         prime: match first >> 6 {
             0 => 7,
             1 => 97,
@@ -58,13 +95,11 @@ fn read_header(job: &[u8]) -> Problem {
         numerator_bound: second >> 2 & 31,
         denominator_bound: (second & 3) << 3 | third >> 5,
         error_bound: third >> 1 & 15,
-        points: [0; 31],
-        values: [[0; 4]; 31],
     }
 }
 
 /// Fills in the rows; refuses the first one with a number of p or more.
-fn read_rows(problem: &mut Problem, job: &[u8]) -> Result<(), Report> {
+fn read_rows(problem: &mut Problem, job: &[u8]) -> Result<(), Refusal> {
     let row_length = 2 * (1 + problem.outputs);
     for row in 0..problem.row_count {
         let stretch = &job[3 + row * row_length..3 + (row + 1) * row_length];
@@ -78,7 +113,17 @@ fn read_rows(problem: &mut Problem, job: &[u8]) -> Result<(), Report> {
             largest = largest.max(value);
         }
         if largest >= problem.prime {
-            return Err(Report::refused(5, row as u32));
+            return Err(Refusal::of_row(5, row));
+        }
+    }
+    Ok(())
+}
+
+/// Refuses the first row whose point stands in an earlier one.
+pub fn refuse_repeated_point<T: PartialEq>(points: &[T]) -> Result<(), Refusal> {
+    for (row, point) in points.iter().enumerate() {
+        if points[..row].contains(point) {
+            return Err(Refusal::of_row(6, row));
         }
     }
     Ok(())

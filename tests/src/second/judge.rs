@@ -6,8 +6,7 @@ use hanthuvelo::Judgement;
 
 /// Whether the offered bytes are those of the job's answer; or the refusal, of the job first.
 pub fn judge(job: &[u8], offered: &[u8]) -> Judgement {
-    // No area is lent that could be too short.
-    let problem = match reader::read(job, usize::MAX) {
+    let problem = match reader::read_form(job) {
         Ok(problem) => problem,
         Err(refusal) => return Judgement::refused(refusal.number, refusal.row),
     };

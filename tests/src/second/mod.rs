@@ -2,8 +2,10 @@
 //!
 //! It shares no code with the library or with `plain`, and its method is another one. It reads the
 //! job bytes, tests the refusals, solves by Gaussian elimination and writes the answer by itself.
-//! Beside it the second writer of trial jobs, the second reciprocal and the second judge, as separate.
+//! Beside it the second writer of trial jobs, the second reciprocal, the second judge and the second
+//! check of a job's form, as separate.
 
+mod check;
 mod equations;
 mod field;
 mod judge;
@@ -14,6 +16,7 @@ pub mod reduced;
 mod text;
 mod trial;
 
+pub use check::check;
 pub use field::Field;
 use hanthuvelo::Report;
 pub use judge::judge;

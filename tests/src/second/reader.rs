@@ -47,6 +47,13 @@ impl Header {
 
 /// The job that `bytes` hold, or the first refusal that applies before 8.
 pub fn read(bytes: &[u8], area_length: usize) -> Result<Problem, Refusal> {
+    let problem = read_form(bytes)?;
+    refuse_if(area_length < answer_length(&problem), 7, 0)?;
+    Ok(problem)
+}
+
+/// The job that `bytes` hold, or the first refusal that applies before 7; no area is lent.
+pub fn read_form(bytes: &[u8]) -> Result<Problem, Refusal> {
     let header = read_header(bytes)?;
     refuse_if(header.spare == 1, 2, 0)?;
     refuse_if(
@@ -65,7 +72,6 @@ pub fn read(bytes: &[u8], area_length: usize) -> Result<Problem, Refusal> {
     };
     refuse_row(first_row_out_of_range(&problem), 5)?;
     refuse_row(first_row_with_used_point(&problem), 6)?;
-    refuse_if(area_length < answer_length(&problem), 7, 0)?;
     Ok(problem)
 }
 

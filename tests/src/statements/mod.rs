@@ -14,7 +14,7 @@ use std::path::{Path, PathBuf};
 use walk::Walk;
 
 /// The functions whose contracts are the demands and the requests, each in the sources of its crate.
-pub const ROOTS: [(&str, &str); 11] = [
+pub const ROOTS: [(&str, &str); 16] = [
     ("recovery", "recover"),
     ("enlargement", "recover_both"),
     ("capi", "hanthuvelo_recover"),
@@ -26,6 +26,11 @@ pub const ROOTS: [(&str, &str); 11] = [
     ("offered_answer", "judge_answer"),
     ("judged_recovery", "recover_and_judge"),
     ("capi", "hanthuvelo_judge"),
+    ("form_check", "check"),
+    ("checked_recovery", "check_and_recover"),
+    ("capi", "hanthuvelo_check"),
+    ("row_word", "word_from"),
+    ("row_word", "part"),
 ];
 
 /// Where the page stands in the repository.

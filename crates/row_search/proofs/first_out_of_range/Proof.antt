@@ -12,27 +12,27 @@ use Rattle.row_search.proofs.first_out_of_range.Statement.{statement}
 use Rattle.row_search.proofs.first_out_of_range.Tie as tie
 
 abbrev Inv-loop : tie.InvT-loop
-Inv-loop values rows outputs p points r₀ r =
+Inv-loop points values rows outputs p r₀ r =
     Searching (λ k. leb p (getD points k 0) || anyBelow outputs (λ i. leb p (getD values (k * 4 + i) 0))) rows r
 
 abbrev μ-loop : tie.MeasureT-loop
-μ-loop values rows outputs p points r₀ r = rows - r
+μ-loop points values rows outputs p r₀ r = rows - r
 
 loop-holds : tie.Need-loop-holds Inv-loop μ-loop
 loop-holds c = search-start _ _
 
 returns : tie.Need-returns Inv-loop μ-loop
-returns c = search-found _ (c .before .before .loop .inv) (omega arith) (ap₂ _||_ (le-leb _ _ (c .if1 .taken)) refl)
+returns c = search-found _ (c .before .before .before .loop .inv) (omega arith) (ap₂ _||_ (le-leb _ _ (c .if1 .taken)) refl)
 
 returns-2 : tie.Need-returns-2 Inv-loop μ-loop
 returns-2 c =
     let here = ap₂ _||_ (lt-leb _ _ (c .before .before .if1 .left)) (sym (c .before .value-out-of-range .ensures) ∙ c .if2 .taken) in
-    search-found _ (c .before .before .before .before .loop .inv) (omega arith) here
+    search-found _ (c .before .before .before .before .before .loop .inv) (omega arith) here
 
 loop-again : tie.Need-loop-again Inv-loop μ-loop
 loop-again c =
     let here = ap₂ _||_ (lt-leb _ _ (c .before .before .if1 .left)) (sym (c .before .value-out-of-range .ensures) ∙ c .if2 .left) in
-    search-next _ (c .before .before .before .before .loop .inv) (omega arith) here
+    search-next _ (c .before .before .before .before .before .loop .inv) (omega arith) here
 
 returns-3 : tie.Need-returns-3 Inv-loop μ-loop
 returns-3 c = search-end _ (c .before .loop .inv) (omega arith)

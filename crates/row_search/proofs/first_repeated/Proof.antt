@@ -1,43 +1,22 @@
-use Prim.Native.Nat.{_-_}
-use mathlib.Core.Path.{sym, _∙_}
 use borrow.Author.Needs.{needs}
-use native.Mathlib.Omega.{arith}
-use lib.Dec.{eqb}
-use lib.ListN.{getD}
-use Rattle.row_search.specs.Search.{anyBelow}
-use Rattle.row_search.proofs.FirstBelow.{Searching, search-start, search-next, search-found, search-end}
+use mathlib.Core.Path.{sym}
+use Rattle.row_search.proofs.Distinct.{none-repeated}
 use Rattle.row_search.proofs.first_repeated.Statement.{statement}
 use Rattle.row_search.proofs.first_repeated.Tie as tie
 
-abbrev Inv-loop : tie.InvT-loop
-Inv-loop points rows r₀ r = Searching (λ k. anyBelow k (λ q. eqb (getD points q 0) (getD points k 0))) rows r
+returns : tie.Need-returns
+returns c = sym (none-repeated (c .before .before .args .points .now) (c .before .rise .ensures (c .if1 .taken)))
 
-abbrev μ-loop : tie.MeasureT-loop
-μ-loop points rows r₀ r = rows - r
-
-loop-holds : tie.Need-loop-holds Inv-loop μ-loop
-loop-holds c = search-start _ _
-
-returns : tie.Need-returns Inv-loop μ-loop
-returns c = search-found _ (c .before .before .before .loop .inv) (omega arith) (sym (c .before .stands-earlier .ensures) ∙ c .if1 .taken)
-
-loop-again : tie.Need-loop-again Inv-loop μ-loop
-loop-again c = search-next _ (c .before .before .before .loop .inv) (omega arith) (sym (c .before .stands-earlier .ensures) ∙ c .if1 .left)
-
-returns-2 : tie.Need-returns-2 Inv-loop μ-loop
-returns-2 c = search-end _ (c .before .loop .inv) (omega arith)
+returns-2 : tie.Need-returns-2
+returns-2 c = sym (none-repeated (c .before .before .before .before .before .args .points .now) (c .before .single .ensures (c .if3 .taken)))
 
 pub first-repeated-spec : {M : Type 1} → statement M
 first-repeated-spec =
     tie.close
     (tie.spec
-    Inv-loop
-    μ-loop
-    loop-holds
-    (λ c. search needs)
     (λ c κs. search needs)
     returns
-    (λ c. search needs)
-    (λ c. search needs)
-    loop-again
-    returns-2)
+    (λ c κs. search needs)
+    returns-2
+    (λ c κs. search needs)
+    (λ c. search needs))

@@ -11,19 +11,19 @@ use Rattle.row_search.proofs.stands_earlier.Statement.{statement}
 use Rattle.row_search.proofs.stands_earlier.Tie as tie
 
 abbrev Inv-loop : tie.InvT-loop
-Inv-loop r points point q₀ q = Searching (λ k. eqb (getD points k 0) (getD points r 0)) r q
+Inv-loop points r point q₀ q = Searching (λ k. eqb (getD points k 0) (getD points r 0)) r q
 
 abbrev μ-loop : tie.MeasureT-loop
-μ-loop r points point q₀ q = r - q
+μ-loop points r point q₀ q = r - q
 
 loop-holds : tie.Need-loop-holds Inv-loop μ-loop
 loop-holds c = search-start _ _
 
 returns : tie.Need-returns Inv-loop μ-loop
-returns c = ap isFound (search-found _ (c .before .before .loop .inv) (omega arith) (eq-eqb _ _ (c .if1 .taken)))
+returns c = ap isFound (search-found _ (c .before .before .before .loop .inv) (omega arith) (eq-eqb _ _ (c .if1 .taken)))
 
 loop-again : tie.Need-loop-again Inv-loop μ-loop
-loop-again c = search-next _ (c .before .before .loop .inv) (omega arith) (ne-eqb _ _ (c .if1 .left))
+loop-again c = search-next _ (c .before .before .before .loop .inv) (omega arith) (ne-eqb _ _ (c .if1 .left))
 
 returns-2 : tie.Need-returns-2 Inv-loop μ-loop
 returns-2 c = ap isFound (search-end _ (c .before .loop .inv) (omega arith))

@@ -11,19 +11,19 @@ use Rattle.row_search.proofs.value_out_of_range.Statement.{statement}
 use Rattle.row_search.proofs.value_out_of_range.Tie as tie
 
 abbrev Inv-loop : tie.InvT-loop
-Inv-loop from outputs p values i₀ i = Searching (λ k. leb p (getD values (from + k) 0)) outputs i
+Inv-loop values from outputs p i₀ i = Searching (λ k. leb p (getD values (from + k) 0)) outputs i
 
 abbrev μ-loop : tie.MeasureT-loop
-μ-loop from outputs p values i₀ i = outputs - i
+μ-loop values from outputs p i₀ i = outputs - i
 
 loop-holds : tie.Need-loop-holds Inv-loop μ-loop
 loop-holds c = search-start _ _
 
 returns : tie.Need-returns Inv-loop μ-loop
-returns c = ap isFound (search-found _ (c .before .before .loop .inv) (omega arith) (le-leb _ _ (c .if1 .taken)))
+returns c = ap isFound (search-found _ (c .before .before .before .loop .inv) (omega arith) (le-leb _ _ (c .if1 .taken)))
 
 loop-again : tie.Need-loop-again Inv-loop μ-loop
-loop-again c = search-next _ (c .before .before .loop .inv) (omega arith) (lt-leb _ _ (c .if1 .left))
+loop-again c = search-next _ (c .before .before .before .loop .inv) (omega arith) (lt-leb _ _ (c .if1 .left))
 
 returns-2 : tie.Need-returns-2 Inv-loop μ-loop
 returns-2 c = ap isFound (search-end _ (c .before .loop .inv) (omega arith))

@@ -17,13 +17,13 @@ use Rattle.rows.proofs.read_rows.Statement.{statement}
 use Rattle.rows.proofs.read_rows.Tie as tie
 
 abbrev Inv-loop : tie.InvT-loop
-Inv-loop job rows outputs all₀ r₀ all r =
+Inv-loop job rows outputs points₀ values₀ r₀ points values r =
     (r ≤ rows)
-    × Filled 32 (λ k. cond (ltb k (boundsOf job .rows)) (jobPoint job k) 0) (λ k. 0) r (all .points)
-    × Filled 128 (λ k. cond (ltb (k / 4) (boundsOf job .rows)) (valueOrZero job (k / 4) (k % 4)) 0) (λ k. 0) (r * 4) (all .values)
+    × Filled 32 (λ k. cond (ltb k (boundsOf job .rows)) (jobPoint job k) 0) (λ k. 0) r points
+    × Filled 128 (λ k. cond (ltb (k / 4) (boundsOf job .rows)) (valueOrZero job (k / 4) (k % 4)) 0) (λ k. 0) (r * 4) values
 
 abbrev μ-loop : tie.MeasureT-loop
-μ-loop job rows outputs all₀ r₀ all r = rows - r
+μ-loop job rows outputs points₀ values₀ r₀ points values r = rows - r
 
 loop-holds : tie.Need-loop-holds Inv-loop μ-loop
 loop-holds c = (search needs, filled-none 32 _ _ refl, filled-none 128 _ _ refl)
@@ -38,8 +38,8 @@ loop-again c =
     let next : r * 4 + 4 ≡ (r + 1) * 4 = omega arith in
     let there : r < boundsOf s .rows = omega arith in (
       omega arith,
-      rw (c .with-row .ensures .0) (filled-more (a .loop .inv .1) _ (omega arith) (ap (λ (x : Row). x .point) row ∙ sym (simp (lt-ltb r _ there)))),
-      rw (c .with-row .ensures .1, ← next) (fill-four (a .loop .inv .2) (c .before .row-at .result .values) (omega arith) (λ i l.
+      filled-more (a .loop .inv .1) _ (omega arith) (ap (λ (x : Row). x .point) row ∙ sym (simp (lt-ltb r _ there))),
+      rw (← next) (fill-four (a .loop .inv .2) (c .before .row-at .result .values) (omega arith) (λ i l.
           ap (λ (x : Row). getD (x .values) i 0) row ∙ row-values s r i l ∙ sym (simp (lt-ltb ((r * 4 + i) / 4) (boundsOf s .rows) (omega arith))))),
     )
 
@@ -59,7 +59,24 @@ read-rows-spec =
     μ-loop
     loop-holds
     (λ c κs. search needs)
-    (λ c κs. search needs)
+    (λ c. search needs)
+    (λ c. search needs)
+    (λ c. search needs)
+    (λ c. search needs)
+    (λ c. search needs)
+    (λ c. search needs)
+    (λ c. search needs)
+    (λ c. search needs)
+    (λ c. search needs)
+    (λ c. search needs)
+    (λ c. search needs)
+    (λ c. search needs)
+    (λ c. search needs)
+    (λ c. search needs)
+    (λ c. search needs)
+    (λ c. search needs)
+    (λ c. search needs)
+    (λ c. search needs)
     (λ c. search needs)
     (λ c. search needs)
     loop-again

@@ -1,6 +1,6 @@
 use borrow.Author.Needs.{needs}
-use Prim.Native.Nat.{_+_, _-_, _*_}
-use mathlib.Core.Path.{_≡_, _∙_}
+use Prim.Native.Nat.{_+_}
+use mathlib.Core.Path.{_∙_}
 use native.Mathlib.Omega.{arith}
 use denote.Ref.{now}
 use Rattle.rows.proofs.RowPlaces.{row-ends, row-part}
@@ -10,11 +10,7 @@ use Rattle.rows.proofs.row_at.Tie as tie
 returns : tie.Need-returns
 returns c =
     let a = c .before .before .before in
-    let n = a .args .outputs in
-    let from = 3 + 2 * (a .args .r * (1 + n)) in
-    let e : from + 2 * (1 + n) - from ≡ 2 * (1 + n) = omega arith in
-    let whole = rw e at (c .read-row .ensures) in
-    whole ∙ row-part (now (a .args .job)) (a .args .r) n (a .pre .1)
+    c .read-row .ensures ∙ row-part (now (a .args .job)) (a .args .r) (a .args .outputs) (a .pre .1)
 
 pub row-at-spec : {M : Type 1} → statement M
 row-at-spec =

@@ -11,7 +11,8 @@ use std::ffi::OsString;
 pub const PACK_HELP: &str = "\
 usage: hanthuvelo pack [OPTION].. FILE..
 
-Writes the bytes of each job to standard output, back to back, as `hanthuvelo recover --stream` takes them.
+Writes the bytes of each job to standard output, back to back, as `hanthuvelo recover --stream` and `check --stream`
+take them.
 FILE is a job as bytes, or a readable one, told apart by its bytes; - is standard input.
 
   --hex          hexadecimal text, a line for each job

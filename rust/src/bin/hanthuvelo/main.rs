@@ -1,11 +1,13 @@
-//! The command `hanthuvelo`: jobs recovered, packed and shown for people, offered answers judged, trial jobs written, and
-//! reciprocals.
+//! The command `hanthuvelo`: jobs recovered, checked, packed and shown for people, offered answers judged, trial jobs
+//! written, and reciprocals.
 
 mod arguments;
+mod check;
 mod convert;
 mod input;
 mod job_stream;
 mod judge;
+mod many;
 mod output;
 mod pieces;
 mod pool;
@@ -35,12 +37,18 @@ struct Verb {
     run: fn(&[OsString]) -> Result<Status, Failure>,
 }
 
-const VERBS: [Verb; 7] = [
+const VERBS: [Verb; 8] = [
     Verb {
         name: "recover",
         summary: "the fractions and the wrong rows of jobs",
         help: recover::HELP,
         run: recover::run,
+    },
+    Verb {
+        name: "check",
+        summary: "whether jobs are accepted by their form, or why not",
+        help: check::HELP,
+        run: check::run,
     },
     Verb {
         name: "pack",

@@ -7,7 +7,8 @@ use std::time::{Duration, Instant};
 /// What became of the jobs so far.
 #[derive(Clone, Copy, Default)]
 pub struct Tally {
-    pub recovered: u64,
+    /// Jobs that are not refused.
+    pub passed: u64,
     pub refused: u64,
     /// Inputs that could not be read.
     pub unreadable: u64,
@@ -17,14 +18,14 @@ pub struct Tally {
 
 impl Tally {
     pub fn add(&mut self, other: Tally) {
-        self.recovered += other.recovered;
+        self.passed += other.passed;
         self.refused += other.refused;
         self.unreadable += other.unreadable;
         self.bytes += other.bytes;
     }
 
     pub fn jobs(&self) -> u64 {
-        self.recovered + self.refused
+        self.passed + self.refused
     }
 
     pub fn status(&self) -> Status {
@@ -107,8 +108,9 @@ impl Progress {
         }
     }
 
-    pub fn summary(&self, tally: &Tally) -> String {
-        summary(tally, self.start.elapsed())
+    /// All that was done; `passed` says what became of a job that is not refused.
+    pub fn summary(&self, tally: &Tally, passed: &str) -> String {
+        summary(tally, passed, self.start.elapsed())
     }
 }
 
@@ -128,8 +130,8 @@ fn line(tally: &Tally, extent: Extent, elapsed: Duration) -> String {
 }
 
 /// `14 jobs: 11 recovered, 3 refused; 0.02 s, 700 jobs a second`.
-fn summary(tally: &Tally, elapsed: Duration) -> String {
-    let (jobs, recovered, refused) = (tally.jobs(), tally.recovered, tally.refused);
+fn summary(tally: &Tally, passed: &str, elapsed: Duration) -> String {
+    let (jobs, count, refused) = (tally.jobs(), tally.passed, tally.refused);
     let noun = if jobs == 1 { "job" } else { "jobs" };
     let unreadable = match tally.unreadable {
         0 => String::new(),
@@ -137,7 +139,7 @@ fn summary(tally: &Tally, elapsed: Duration) -> String {
         count => format!("; {count} inputs could not be read"),
     };
     let (seconds, rate) = (elapsed.as_secs_f64(), rate(tally, elapsed));
-    format!("{jobs} {noun}: {recovered} recovered, {refused} refused{unreadable}; {seconds:.2} s, {rate:.0} jobs a second")
+    format!("{jobs} {noun}: {count} {passed}, {refused} refused{unreadable}; {seconds:.2} s, {rate:.0} jobs a second")
 }
 
 #[cfg(test)]
@@ -145,7 +147,7 @@ mod tests {
     use super::*;
 
     const TALLY: Tally = Tally {
-        recovered: 90,
+        passed: 90,
         refused: 10,
         unreadable: 0,
         bytes: 2000,
@@ -167,15 +169,17 @@ mod tests {
     #[test]
     fn the_summary_counts_jobs_and_inputs() {
         let said = "100 jobs: 90 recovered, 10 refused; 2.00 s, 50 jobs a second";
-        assert_eq!(summary(&TALLY, TWO_SECONDS), said);
+        assert_eq!(summary(&TALLY, "recovered", TWO_SECONDS), said);
+        let said = "100 jobs: 90 accepted, 10 refused; 2.00 s, 50 jobs a second";
+        assert_eq!(summary(&TALLY, "accepted", TWO_SECONDS), said);
         let with_failure = Tally {
-            recovered: 0,
+            passed: 0,
             refused: 1,
             unreadable: 2,
             bytes: 0,
         };
         let said =
             "1 job: 0 recovered, 1 refused; 2 inputs could not be read; 2.00 s, 0 jobs a second";
-        assert_eq!(summary(&with_failure, TWO_SECONDS), said);
+        assert_eq!(summary(&with_failure, "recovered", TWO_SECONDS), said);
     }
 }

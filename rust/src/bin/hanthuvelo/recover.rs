@@ -1,16 +1,12 @@
 //! `hanthuvelo recover`: the library on one job or on many.
 
 use crate::arguments::{Arguments, Known};
-use crate::input::Form;
-use crate::output::{self, Failure};
-use crate::pieces::Pieces;
-use crate::progress::{Progress, Tally};
-use crate::results::{work_off, Format, Results, Target};
-use crate::{pool, Status};
+use crate::output::Failure;
+use crate::render::{Place, Recovered};
+use crate::results::{Results, Target, Work};
+use crate::{many, Status};
+use hanthuvelo::{hex, Refusal, LONGEST_ANSWER};
 use std::ffi::OsString;
-use std::fs::File;
-use std::io::{self, Write};
-use std::thread;
 
 pub const HELP: &str = "\
 usage: hanthuvelo recover [OPTION].. FILE..
@@ -31,108 +27,72 @@ that end in .job are taken, by their names.
 Exit status: 0 all jobs are recovered; 1 a job was refused; 2 bad use, or an input that cannot be read.
 ";
 
-const KNOWN: [Known; 8] = [
-    Known::Flag("--json"),
-    Known::Flag("--bytes"),
-    Known::Flag("--hex"),
-    Known::Flag("--stream"),
-    Known::Flag("--readable"),
-    Known::Flag("--binary"),
-    Known::Value("--threads"),
-    Known::Flag("--quiet"),
-];
+const OWN: [Known; 2] = [Known::Flag("--bytes"), Known::Flag("--hex")];
 
-/// What the words ask for.
-struct Wanted {
-    format: Format,
-    form: Form,
-    is_stream: bool,
-    threads: usize,
+pub fn run(words: &[OsString]) -> Result<Status, Failure> {
+    let arguments = many::arguments(words, &OWN)?;
+    arguments.exclude("--json", "--bytes")?;
+    arguments.exclude("--stream", "--readable")?;
+    arguments.need_beside("--hex", "--bytes")?;
+    many::run(&arguments, &Format::from(&arguments))
 }
 
-impl Wanted {
-    fn from(arguments: &Arguments) -> Result<Wanted, Failure> {
-        arguments.at_least_one_file()?;
-        arguments.exclude("--json", "--bytes")?;
-        arguments.exclude("--stream", "--readable")?;
-        arguments.need_beside("--hex", "--bytes")?;
-        let format = match (arguments.has("--json"), arguments.has("--bytes")) {
+/// What is wanted of the recovered jobs.
+#[derive(Clone, Copy)]
+enum Format {
+    Text,
+    Json,
+    Bytes,
+    Hex,
+}
+
+impl Format {
+    fn from(arguments: &Arguments) -> Format {
+        match (arguments.has("--json"), arguments.has("--bytes")) {
             (true, _) => Format::Json,
             (_, true) if arguments.has("--hex") => Format::Hex,
             (_, true) => Format::Bytes,
             _ => Format::Text,
+        }
+    }
+
+    fn add_answer(self, place: &Place, job: &[u8], written: &[u8], results: &mut Results) {
+        let text = match self {
+            Format::Bytes => return results.add_passed_bytes(written),
+            Format::Hex => Ok(hex::text(written) + "\n"),
+            Format::Text => Recovered::read(job, written).map(|read| read.text(place)),
+            Format::Json => Recovered::read(job, written).map(|read| read.json(place)),
         };
-        Ok(Wanted {
-            format,
-            form: Form::from(arguments)?,
-            is_stream: arguments.has("--stream"),
-            threads: threads(arguments)?,
-        })
+        match text {
+            Ok(text) => results.add_passed(text),
+            Err(error) => results.add_unreadable(&place.error(&error)),
+        }
     }
-}
 
-fn threads(arguments: &Arguments) -> Result<usize, Failure> {
-    const MOST: u32 = 1024;
-    Ok(match arguments.number("--threads", 1..=MOST)? {
-        Some(threads) => threads as usize,
-        None => thread::available_parallelism().map_or(1, usize::from),
-    })
-}
-
-pub fn run(words: &[OsString]) -> Result<Status, Failure> {
-    let arguments = Arguments::parse(words, &KNOWN)?;
-    let wanted = Wanted::from(&arguments)?;
-    let mut pieces = Pieces::new(&arguments.files, wanted.is_stream);
-    let is_many = pieces.are_many();
-    let is_told = is_many && !arguments.has("--quiet");
-    let mut sink = Sink {
-        output: output::standard()?,
-        tally: Tally::default(),
-        progress: Progress::new(pieces.extent(), is_told),
-        failure: None,
-    };
-    let threads = if is_many { wanted.threads } else { 1 };
-    pool::in_order(
-        threads,
-        || pieces.next(),
-        |piece| work_off(piece, wanted.form, wanted.format),
-        |results| sink.take(results),
-    );
-    sink.progress.clear();
-    match sink.failure {
-        Some(error) => Err(Failure::Output(error)),
-        None => {
-            if is_told {
-                output::say(&sink.progress.summary(&sink.tally));
-            }
-            Ok(sink.tally.status())
+    /// Where refusals go.
+    fn refusals(self) -> Target {
+        match self {
+            Format::Text | Format::Json => Target::Output,
+            Format::Bytes | Format::Hex => Target::Error,
         }
     }
 }
 
-/// Where the results go, in order.
-struct Sink {
-    output: File,
-    tally: Tally,
-    progress: Progress,
-    failure: Option<io::Error>,
-}
+impl Work for Format {
+    fn passed(&self) -> &'static str {
+        "recovered"
+    }
 
-impl Sink {
-    /// Whether more can be taken.
-    fn take(&mut self, results: Results) -> bool {
-        self.progress.make_room();
-        for (target, bytes) in results.stretches {
-            if target == Target::Error {
-                self.progress.clear();
-                let _ = io::stderr().write_all(&bytes);
-            } else if let Err(error) = self.output.write_all(&bytes) {
-                self.failure = Some(error);
-                return false;
-            }
+    fn is_json(&self) -> bool {
+        matches!(self, Format::Json)
+    }
+
+    fn add_job(&self, place: &Place, job: &[u8], results: &mut Results) {
+        let mut area = [0; LONGEST_ANSWER];
+        let report = hanthuvelo::recover(job, &mut area);
+        match Refusal::of(report, job) {
+            Some(refusal) => results.add_refusal(self.refusals(), place, &refusal),
+            None => self.add_answer(place, job, &area[..report.written as usize], results),
         }
-        self.tally.add(results.tally);
-        self.progress.update(&self.tally);
-        true
     }
 }

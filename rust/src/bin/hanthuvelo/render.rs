@@ -96,6 +96,11 @@ pub fn listed(items: &[String], separator: &str) -> String {
     }
 }
 
+/// Of a job whose form is accepted.
+pub fn accepted_json(place: &Place) -> String {
+    json_object(place, "accepted", "")
+}
+
 pub fn refused_text(place: &Place, refusal: &Refusal) -> String {
     format!("{place}: {refusal}\n")
 }
@@ -136,13 +141,15 @@ pub fn unreadable_json(error: &InputError) -> String {
     )
 }
 
+/// An object with what is known of every job, and then the rest, if there is any.
 fn json_object(place: &Place, status: &str, rest: &str) -> String {
     let file = json_string(place.file);
+    let comma = if rest.is_empty() { "" } else { "," };
     let stream = match place.in_stream {
         Some((job, byte)) => format!("\"job\":{job},\"byte\":{byte},"),
         None => String::new(),
     };
-    format!("{{\"file\":{file},{stream}\"status\":\"{status}\",{rest}}}\n")
+    format!("{{\"file\":{file},{stream}\"status\":\"{status}\"{comma}{rest}}}\n")
 }
 
 /// Coefficients from the constant term to the degree; zero is `[0]`.

@@ -4,16 +4,21 @@ use crate::input::{self, Form, InputError};
 use crate::job_stream::{job_length, Part};
 use crate::pieces::Piece;
 use crate::progress::Tally;
-use crate::render::{self, Place, Recovered};
-use hanthuvelo::{hex, Refusal, LONGEST_ANSWER};
+use crate::render::{self, Place};
+use hanthuvelo::Refusal;
+use std::fmt::Display;
+use std::io::Write;
 
-/// What is wanted of the recovered jobs.
-#[derive(Clone, Copy)]
-pub enum Format {
-    Text,
-    Json,
-    Bytes,
-    Hex,
+/// What a verb does with each job.
+pub trait Work: Sync {
+    /// What became of a job that is not refused, as `recovered`.
+    fn passed(&self) -> &'static str;
+
+    /// Whether an object of JSON is wanted for each job.
+    fn is_json(&self) -> bool;
+
+    /// Works off one job.
+    fn add_job(&self, place: &Place, job: &[u8], results: &mut Results);
 }
 
 #[derive(Clone, Copy, PartialEq, Eq)]
@@ -27,71 +32,62 @@ pub enum Target {
 pub struct Results {
     pub stretches: Vec<(Target, Vec<u8>)>,
     pub tally: Tally,
+    is_json: bool,
 }
 
 impl Results {
-    fn add(&mut self, target: Target, bytes: &[u8]) {
-        match self.stretches.last_mut() {
-            Some((last, stretch)) if *last == target => stretch.extend(bytes),
-            _ => self.stretches.push((target, bytes.to_vec())),
+    /// Where the next bytes for a target are put.
+    fn stretch(&mut self, target: Target) -> &mut Vec<u8> {
+        if self.stretches.last().map(|(last, _)| *last) != Some(target) {
+            self.stretches.push((target, Vec::new()));
         }
+        let last = self.stretches.len() - 1;
+        &mut self.stretches[last].1
     }
 
-    fn add_unreadable(&mut self, error: &InputError, format: Format) {
-        self.tally.unreadable += 1;
-        self.add(Target::Error, format!("{error}\n").as_bytes());
-        if matches!(format, Format::Json) {
-            let object = render::unreadable_json(error);
-            self.add(Target::Output, object.as_bytes());
-        }
+    fn add(&mut self, target: Target, text: impl Display) {
+        // Memory takes all that is written to it.
+        let _ = write!(self.stretch(target), "{text}");
     }
 
-    /// Recovers a job.
-    fn add_job(&mut self, place: &Place, job: &[u8], format: Format) {
-        let mut area = [0; LONGEST_ANSWER];
-        let report = hanthuvelo::recover(job, &mut area);
-        match Refusal::of(report, job) {
-            Some(refusal) => self.add_refusal(place, &refusal, format),
-            None => self.add_answer(place, job, &area[..report.written as usize], format),
-        }
+    /// A job that is not refused, with what is written for it.
+    pub fn add_passed(&mut self, text: impl Display) {
+        self.tally.passed += 1;
+        self.add(Target::Output, text);
     }
 
-    fn add_answer(&mut self, place: &Place, job: &[u8], written: &[u8], format: Format) {
-        let text = match format {
-            Format::Bytes => {
-                self.tally.recovered += 1;
-                return self.add(Target::Output, written);
-            }
-            Format::Hex => Ok(hex::text(written) + "\n"),
-            Format::Text => Recovered::read(job, written).map(|read| read.text(place)),
-            Format::Json => Recovered::read(job, written).map(|read| read.json(place)),
-        };
-        match text {
-            Ok(text) => {
-                self.tally.recovered += 1;
-                self.add(Target::Output, text.as_bytes());
-            }
-            Err(error) => self.add_unreadable(&place.error(&error), format),
-        }
+    /// The same, with bytes of any kind.
+    pub fn add_passed_bytes(&mut self, bytes: &[u8]) {
+        self.tally.passed += 1;
+        self.stretch(Target::Output).extend(bytes);
     }
 
-    fn add_refusal(&mut self, place: &Place, refusal: &Refusal, format: Format) {
+    pub fn add_refusal(&mut self, target: Target, place: &Place, refusal: &Refusal) {
         self.tally.refused += 1;
-        let (target, text) = match format {
-            Format::Json => (Target::Output, render::refused_json(place, refusal)),
-            Format::Text => (Target::Output, render::refused_text(place, refusal)),
-            Format::Bytes | Format::Hex => (Target::Error, render::refused_text(place, refusal)),
-        };
-        self.add(target, text.as_bytes());
+        match self.is_json {
+            true => self.add(target, render::refused_json(place, refusal)),
+            false => self.add(target, render::refused_text(place, refusal)),
+        }
+    }
+
+    pub fn add_unreadable(&mut self, error: &InputError) {
+        self.tally.unreadable += 1;
+        self.add(Target::Error, format_args!("{error}\n"));
+        if self.is_json {
+            self.add(Target::Output, render::unreadable_json(error));
+        }
     }
 }
 
-/// Recovers all jobs of a piece.
-pub fn work_off(piece: Piece, form: Form, format: Format) -> Results {
-    let mut results = Results::default();
+/// Works off all jobs of a piece.
+pub fn work_off(piece: Piece, form: Form, work: &impl Work) -> Results {
+    let mut results = Results {
+        is_json: work.is_json(),
+        ..Results::default()
+    };
     match piece {
-        Piece::Failed(error) => results.add_unreadable(&error, format),
-        Piece::Jobs(part) => work_off_part(&part, format, &mut results),
+        Piece::Failed(error) => results.add_unreadable(&error),
+        Piece::Jobs(part) => work_off_part(&part, work, &mut results),
         Piece::Files(files) => {
             for file in files {
                 let read = file.and_then(|file| {
@@ -99,8 +95,8 @@ pub fn work_off(piece: Piece, form: Form, format: Format) -> Results {
                     Ok((input::name_of(&file), bytes))
                 });
                 match read {
-                    Err(error) => results.add_unreadable(&error, format),
-                    Ok((name, bytes)) => results.add_job(&Place::of(&name), &bytes, format),
+                    Err(error) => results.add_unreadable(&error),
+                    Ok((name, bytes)) => work.add_job(&Place::of(&name), &bytes, &mut results),
                 }
             }
         }
@@ -108,14 +104,14 @@ pub fn work_off(piece: Piece, form: Form, format: Format) -> Results {
     results
 }
 
-fn work_off_part(part: &Part, format: Format, results: &mut Results) {
+fn work_off_part(part: &Part, work: &impl Work, results: &mut Results) {
     let (mut job, mut start) = (part.job, 0);
     while let Some(length) = job_length(&part.bytes[start..]) {
         let place = Place {
             file: &part.file,
             in_stream: Some((job, part.byte + start as u64)),
         };
-        results.add_job(&place, &part.bytes[start..start + length], format);
+        work.add_job(&place, &part.bytes[start..start + length], results);
         start += length;
         job += 1;
     }

@@ -1,11 +1,10 @@
 //! How long a judgement takes, beside the recovery of the same job.
 
-use super::{Times, JOBS, ROUNDS, SEED, SLOW_ROUNDS};
+use super::{microseconds, sorted, Times, JOBS, ROUNDS, SEED, SLOW_ROUNDS};
 use outside_checks::jobs::measured::{generate, Size};
 use outside_checks::layout::{row_bit, Answer, Job};
 use outside_checks::{implementations, judges, Implementation, Judge};
 use std::hint::black_box;
-use std::time::Instant;
 
 /// What is offered for each job.
 const OFFERED: [&str; 3] = ["the answer", "a row more marked", "the answer times 2"];
@@ -45,12 +44,8 @@ fn measure_all(recovery: Implementation, judge: Judge, size: Size, rounds: usize
     let pairs: Vec<Pair> = (0..JOBS)
         .map(|index| pair(recovery, &generate(SEED, index, size)))
         .collect();
-    let new = |name| Times {
-        name,
-        rounds: Vec::new(),
-    };
-    let mut times = vec![new(recovery.name)];
-    times.extend(OFFERED.map(|_| new(judge.name)));
+    let mut times = vec![Times::new(recovery.name)];
+    times.extend(OFFERED.map(|_| Times::new(judge.name)));
     let mut area = vec![0; size.answer_length()];
     for _ in 0..rounds {
         let recover = |pair: &Pair| {
@@ -67,17 +62,7 @@ fn measure_all(recovery: Implementation, judge: Judge, size: Size, rounds: usize
             times.rounds.push(microseconds(&pairs, judge));
         }
     }
-    for each in &mut times {
-        each.rounds.sort_by(f64::total_cmp);
-    }
-    times
-}
-
-/// Microseconds for a call in one round over all pairs.
-fn microseconds(pairs: &[Pair], call: impl FnMut(&Pair)) -> f64 {
-    let start = Instant::now();
-    pairs.iter().for_each(call);
-    start.elapsed().as_secs_f64() * 1e6 / pairs.len() as f64
+    sorted(times)
 }
 
 fn pair(recovery: Implementation, job: &Job) -> Pair {

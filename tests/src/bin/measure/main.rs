@@ -1,6 +1,7 @@
 //! Measures every implementation on the same jobs, in one run:
 //! `cargo run --offline --release --bin measure`.
 
+mod forms;
 mod judging;
 
 use outside_checks::jobs::measured::{generate, Size};
@@ -34,6 +35,13 @@ struct Times {
 }
 
 impl Times {
+    fn new(name: &'static str) -> Times {
+        Times {
+            name,
+            rounds: Vec::new(),
+        }
+    }
+
     fn best(&self) -> f64 {
         self.rounds[0]
     }
@@ -76,6 +84,7 @@ fn main() {
     }
     println!("\nall implementations answered alike on every job");
     judging::show(sizes);
+    forms::show(sizes);
 }
 
 fn sized((numerator_bound, denominator_bound, error_bound): (usize, usize, usize)) -> Size {
@@ -124,13 +133,7 @@ fn measure_all(size: Size, count: u64) -> Vec<Times> {
         .collect();
     compare(&jobs, size);
     let all = implementations();
-    let mut times: Vec<Times> = all
-        .iter()
-        .map(|each| Times {
-            name: each.name,
-            rounds: Vec::new(),
-        })
-        .collect();
+    let mut times: Vec<Times> = all.iter().map(|each| Times::new(each.name)).collect();
     for round in 0..ROUNDS {
         for (implementation, times) in all.iter().zip(&mut times) {
             if implementation.name != "second" || round < SLOW_ROUNDS {
@@ -138,6 +141,11 @@ fn measure_all(size: Size, count: u64) -> Vec<Times> {
             }
         }
     }
+    sorted(times)
+}
+
+/// The same times, of each the least first.
+fn sorted(mut times: Vec<Times>) -> Vec<Times> {
     for each in &mut times {
         each.rounds.sort_by(f64::total_cmp);
     }
@@ -164,12 +172,16 @@ fn compare(jobs: &[Vec<u8>], size: Size) {
     }
 }
 
-/// Microseconds for a job in one round over all jobs.
 fn measure(implementation: Implementation, jobs: &[Vec<u8>], size: Size) -> f64 {
     let mut area = vec![0; size.answer_length()];
-    let start = Instant::now();
-    for job in jobs {
+    microseconds(jobs, |job| {
         black_box((implementation.recover)(black_box(job), &mut area));
-    }
-    start.elapsed().as_secs_f64() * 1e6 / jobs.len() as f64
+    })
+}
+
+/// Microseconds for a call in one round over all that it is called with.
+fn microseconds<T>(all: &[T], call: impl FnMut(&T)) -> f64 {
+    let start = Instant::now();
+    all.iter().for_each(call);
+    start.elapsed().as_secs_f64() * 1e6 / all.len() as f64
 }

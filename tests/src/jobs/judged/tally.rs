@@ -2,12 +2,12 @@
 
 use super::{Pair, Verdict, PLAN};
 use crate::definition::Fault;
-use crate::jobs::tally::with_floors;
+use crate::jobs::tally::{with_floors, Counts};
 use crate::layout::{has_pole, value_at, Answer, Job, Row};
 use crate::second::polynomial::Polynomial;
 use crate::second::Field;
 use hanthuvelo::Judgement;
-use std::collections::{BTreeMap, BTreeSet};
+use std::collections::BTreeSet;
 
 /// Floors out of ten thousand pairs: of the open kinds, and of what was judged. Each kind that fixes
 /// its verdict has its whole share as its floor.
@@ -61,38 +61,33 @@ const RIGHT_FLOORS: [(&str, usize); 4] = [
 #[derive(Default)]
 pub struct Tally {
     pairs: usize,
-    counts: BTreeMap<String, usize>,
+    counts: Counts,
     flipped: BTreeSet<usize>,
 }
 
 impl Tally {
-    fn add(&mut self, name: &str, applies: bool) {
-        if applies {
-            *self.counts.entry(name.to_string()).or_default() += 1;
-        }
-    }
-
     /// Counts a pair by how it was judged, by what the offered answer lacks and by whether the job
     /// has an answer.
     pub fn count(&mut self, pair: &Pair, judgement: Judgement, faults: &[Fault], has_answer: bool) {
         let verdict = Verdict::of(judgement);
         self.pairs += 1;
         self.flipped.extend(pair.flipped);
-        self.add(&format!("{verdict:?}"), true);
-        self.add(&format!("{verdict:?}: {:?}", pair.kind), true);
+        let counts = &mut self.counts;
+        counts.add(&format!("{verdict:?}"), true);
+        counts.add(&format!("{verdict:?}: {:?}", pair.kind), true);
         if verdict == Verdict::Refused {
             return;
         }
         let job = Job::unpack(&pair.job);
-        self.add(&format!("{verdict:?}, modulo {}", job.prime()), true);
-        self.add(&format!("{verdict:?}, outputs: {}", job.outputs), true);
+        counts.add(&format!("{verdict:?}, modulo {}", job.prime()), true);
+        counts.add(&format!("{verdict:?}, outputs: {}", job.outputs), true);
         if verdict == Verdict::Yes {
             return self.count_right(&job, &Answer::unpack(&pair.offered, &job));
         }
-        self.add("No, and the job has no answer", !has_answer);
-        self.add("No, and the job has another answer", has_answer);
+        counts.add("No, and the job has no answer", !has_answer);
+        counts.add("No, and the job has another answer", has_answer);
         if let [fault] = faults {
-            self.add(&format!("No, for {fault:?} alone"), true);
+            counts.add(&format!("No, for {fault:?} alone"), true);
         }
     }
 
@@ -119,18 +114,17 @@ impl Tally {
         let [g_as_such, f1] = [g, &answer.numerators[0]].map(|f| Polynomial::new(f.clone()));
         let divisor = g_as_such.common_divisor(&f1, Field::new(prime));
         let (wrong, bound) = (answer.word.count_ones() as usize, job.error_bound);
-        self.add(
-            "Yes, with exactly E > 0 wrong rows",
-            wrong == bound && wrong > 0,
-        );
-        self.add("Yes, with a pole among the points", has_pole(job, g));
-        self.add(
+        let is_exact = wrong == bound && wrong > 0;
+        let counts = &mut self.counts;
+        counts.add("Yes, with exactly E > 0 wrong rows", is_exact);
+        counts.add("Yes, with a pole among the points", has_pole(job, g));
+        counts.add(
             "Yes, zero values at a pole",
             job.rows.iter().any(is_zero_at_pole),
         );
-        self.add("Yes, with more wrong values than E", wrong_values > bound);
-        self.add("Yes, with a wrong row right for f1", right_for_f1);
-        self.add(
+        counts.add("Yes, with more wrong values than E", wrong_values > bound);
+        counts.add("Yes, with a wrong row right for f1", right_for_f1);
+        counts.add(
             "Yes, f1 and g have a common divisor",
             divisor.degree() > Some(0),
         );
@@ -138,15 +132,15 @@ impl Tally {
 
     /// All counts as text, and whether each reaches its floor.
     pub fn summary(&self) -> (String, bool) {
-        let count = |name: &str| self.counts.get(name).copied().unwrap_or(0);
         let of_plan = PLAN.into_iter().filter_map(|(kind, parts)| {
             let name = format!("{:?}: {kind:?}", kind.verdict()?);
-            Some((name.clone(), count(&name), self.pairs / 100 * parts))
+            let count = self.counts.of(&name);
+            Some((name, count, self.pairs / 100 * parts))
         });
         let others = FLOORS.into_iter().chain(RIGHT_FLOORS);
         let others = others.map(|(name, floor)| {
             let floor = self.pairs * floor / 10_000;
-            (name.to_string(), count(name), floor)
+            (name.to_string(), self.counts.of(name), floor)
         });
         let whole = [
             ("pairs".to_string(), self.pairs, 50_000),

@@ -2,10 +2,9 @@
 
 use super::fault::Fault;
 use super::{Fields, TrialCall};
-use crate::jobs::tally::with_floors;
+use crate::jobs::tally::{with_floors, Counts};
 use crate::second::TrialJob;
 use hanthuvelo::Written;
-use std::collections::BTreeMap;
 
 /// Floors out of a thousand calls: of what they were made to be, and of what became of them.
 const FLOORS: [(&str, usize); 36] = [
@@ -50,24 +49,20 @@ const FLOORS: [(&str, usize); 36] = [
 #[derive(Default)]
 pub struct Tally {
     calls: usize,
-    counts: BTreeMap<String, usize>,
+    counts: Counts,
 }
 
 impl Tally {
-    fn add(&mut self, name: &str, applies: bool) {
-        if applies {
-            *self.counts.entry(name.to_string()).or_default() += 1;
-        }
-    }
-
     /// Counts a call by what it returned, and by its job if one was written.
     pub fn count(&mut self, call: &TrialCall, written: Written, job: Option<&TrialJob>) {
         self.calls += 1;
         for label in &call.labels {
-            self.add(label, true);
+            self.counts.add(label, true);
         }
         match job {
-            None => self.add(&format!("refused {}", written.refusal), true),
+            None => self
+                .counts
+                .add(&format!("refused {}", written.refusal), true),
             Some(job) => self.count_job(call, job),
         }
     }
@@ -83,30 +78,31 @@ impl Tally {
         let wrong = job.wrong_rows().len();
         let spoiled_pole = !job.poles.is_disjoint(&job.spoiled);
         let within = wrong <= error_bound;
-        self.add("written", true);
-        self.add(&format!("written modulo {prime}"), true);
-        self.add(&format!("written with {outputs} output{ending}"), true);
-        self.add("w is 0", call.spoiled == 0);
-        self.add("w is L", call.spoiled as usize == row_count);
-        self.add("L is p", row_count == prime as usize);
-        self.add("poles", !job.poles.is_empty());
-        self.add("spoiled poles", spoiled_pole);
-        self.add("a taken row is chosen", job.taken > 0);
-        self.add("from the last row to row 0", job.wrapped > 0);
-        self.add("poles and spoiled rows within E", within);
-        self.add("within E, with poles", within && !job.poles.is_empty());
-        self.add("within E, with spoiled poles", within && spoiled_pole);
+        let counts = &mut self.counts;
+        counts.add("written", true);
+        counts.add(&format!("written modulo {prime}"), true);
+        counts.add(&format!("written with {outputs} output{ending}"), true);
+        counts.add("w is 0", call.spoiled == 0);
+        counts.add("w is L", call.spoiled as usize == row_count);
+        counts.add("L is p", row_count == prime as usize);
+        counts.add("poles", !job.poles.is_empty());
+        counts.add("spoiled poles", spoiled_pole);
+        counts.add("a taken row is chosen", job.taken > 0);
+        counts.add("from the last row to row 0", job.wrapped > 0);
+        counts.add("poles and spoiled rows within E", within);
+        counts.add("within E, with poles", within && !job.poles.is_empty());
+        counts.add("within E, with spoiled poles", within && spoiled_pole);
         let exact = wrong == error_bound && wrong > 0;
-        self.add("within E, exactly E > 0", exact);
-        self.add("above E", !within);
-        self.add("exactly E + 1", wrong == error_bound + 1);
+        counts.add("within E, exactly E > 0", exact);
+        counts.add("above E", !within);
+        counts.add("exactly E + 1", wrong == error_bound + 1);
     }
 
     /// All counts as text, and whether each reaches its floor.
     pub fn summary(&self) -> (String, bool) {
         let causes = Fault::ALL.into_iter().map(|fault| (fault.refusal().1, 15));
         let line = |(name, thousandths): (&str, usize)| {
-            let count = self.counts.get(name).copied().unwrap_or(0);
+            let count = self.counts.of(name);
             (name.to_string(), count, self.calls * thousandths / 1000)
         };
         let calls = ("calls".to_string(), self.calls, 50_000);

@@ -25,12 +25,18 @@ bytes c = now (c .args .job)
 abbrev area : tie.Start → ℕ
 area c = c .args .area
 
--- the entry, from where each test has run
+-- where the rows were read, where test 5 had run, and the entry, from where each test has run
+abbrev read : tie.After-first-out-of-range → tie.After-read-rows
+read c = c .before .before .before .before .before
+
+abbrev test-5-of : tie.After-first-repeated → tie.After-first-out-of-range
+test-5-of c = c .before .before .before .before
+
 abbrev start-5 : tie.After-first-out-of-range → tie.Start
-start-5 c = c .before .before .before .before .before .before
+start-5 c = read c .before .before .before
 
 abbrev start-6 : tie.After-first-repeated → tie.Start
-start-6 c = start-5 (c .before .before .before)
+start-6 c = start-5 (test-5-of c)
 
 abbrev start-7 : tie.After-answer-length → tie.Start
 start-7 c = start-6 (c .before .before .before)
@@ -43,8 +49,8 @@ as-defined c e h = e ∙ sym (ap (λ (x : Outcome). readingWith x (bytes c)) h)
 test-5 : (c : tie.After-first-out-of-range)
     → c .first-out-of-range .result ≡ firstBelow (boundsOf (bytes (start-5 c)) .rows) (outOfRange (bytes (start-5 c)))
 test-5 c =
-    let rows = c .before .before .before .read-rows .ensures in
-    let p = c .before .before .before .before .modulus .ensures in
+    let rows = read c .read-rows .ensures in
+    let p = read c .before .modulus .ensures in
     first-out-of-range (bytes (start-5 c)) (start-5 c .pre .0) (rows .0) (rows .1) p (c .first-out-of-range .ensures)
 
 not-5 : (c : tie.After-enum-told)
@@ -54,7 +60,7 @@ not-5 c = sym (test-5 (c .before .before)) ∙ c .enum-told .given .1
 test-6 : (c : tie.After-first-repeated)
     → c .first-repeated .result ≡ firstBelow (boundsOf (bytes (start-6 c)) .rows) (repeatedPoint (bytes (start-6 c)))
 test-6 c =
-    let rows = c .before .before .before .before .before .before .read-rows .ensures in
+    let rows = read (test-5-of c) .read-rows .ensures in
     first-repeated (bytes (start-6 c)) (start-6 c .pre .0) (rows .0) (c .first-repeated .ensures)
 
 not-6 : (c : tie.After-enum-told2)
@@ -79,7 +85,7 @@ returns-2 : tie.Need-returns-2
 returns-2 c =
     let a = c .before .before .before .before in
     as-defined (start-6 a) (c .refused2 .ensures)
-    (at-6 _ _ (not-5 (a .before)) (sym (test-6 a) ∙ c .before .before .row2 .given .1))
+    (at-6 _ _ (not-5 (a .before .before)) (sym (test-6 a) ∙ c .before .before .row2 .given .1))
 
 answer-length-requires : tie.Need-answer-length-requires
 answer-length-requires c κs =
@@ -90,19 +96,19 @@ returns-3 : tie.Need-returns-3
 returns-3 c =
     let a = c .before .before in
     let short = lt-ltb _ _ (rw (needed a) at (c .before .if1 .taken)) in
-    as-defined (start-7 a) (c .refused3 .ensures) (at-7 _ _ (not-5 (a .before .before .before .before)) (not-6 (a .before)) short)
+    as-defined (start-7 a) (c .refused3 .ensures) (at-7 _ _ (not-5 (a .before .before .before .before .before)) (not-6 (a .before)) short)
 
 returns-4 : tie.Need-returns-4
 returns-4 c =
     let a = c .before in
     let enough = le-ltb _ _ (rw (needed a) at (c .if1 .left)) in
-    let read = a .before .before .before .before .before .before .before .before .before in
-    let rows = read .read-rows .result in
+    let rows-read = read (test-5-of (a .before .before .before)) in
+    let rows = rows-read .read-rows .result in
     let reading : _≡_ {A = Reading}
     record { outcome = Accepted; bounds = start-7 a .args .bounds; points = rows .points; values = rows .values }
     (readingWith Accepted (bytes (start-7 a))) =
-    λ i. record { outcome = Accepted; bounds = start-7 a .pre .0 i; points = read .read-rows .ensures .0 i; values = read .read-rows .ensures .1 i } in
-    as-defined (start-7 a) reading (accepted _ _ (not-5 (a .before .before .before .before)) (not-6 (a .before)) enough)
+    λ i. record { outcome = Accepted; bounds = start-7 a .pre .0 i; points = rows-read .read-rows .ensures .0 i; values = rows-read .read-rows .ensures .1 i } in
+    as-defined (start-7 a) reading (accepted _ _ (not-5 (a .before .before .before .before .before)) (not-6 (a .before)) enough)
 
 pub read-body-spec : {M : Type 1} → statement M
 read-body-spec =

@@ -8,8 +8,8 @@ use borrow.Author.Tests.{lt-ltb, le-ltb}
 use Rattle.format.specs.Numbers.{numberFrom}
 use Rattle.rows.specs.Steps.{rowOf}
 use Rattle.lists.proofs.Filling.{Filled, filled-none, filled-more, filled-all}
-use Rattle.rows.proofs.read_row.Statement.{statement}
-use Rattle.rows.proofs.read_row.Tie as tie
+use Rattle.rows.proofs.read_short_row.Statement.{statement}
+use Rattle.rows.proofs.read_short_row.Tie as tie
 
 abbrev Inv-loop : tie.InvT-loop
 Inv-loop bytes outputs point values₀ i₀ values i =
@@ -33,8 +33,8 @@ returns c =
     let values = filled-all (a .loop .inv .1) (λ k l. simp (le-ltb k (a .before .before .before .args .outputs) (omega arith))) in
     λ i. record { point = a .before .number-from .ensures i; values = values i }
 
-pub read-row-spec : {M : Type 1} → statement M
-read-row-spec =
+pub read-short-row-spec : {M : Type 1} → statement M
+read-short-row-spec =
     tie.close
     (tie.spec
     Inv-loop

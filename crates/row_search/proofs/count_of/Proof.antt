@@ -1,0 +1,63 @@
+use Prim.Native.Nat.{ℕ, _+_, _-_, _≤_}
+use mathlib.Core.Bool.{Bool, true, false}
+use mathlib.Core.Path.{_≡_, refl, sym}
+use borrow.Author.Needs.{needs}
+use native.Mathlib.Omega.{arith}
+use lib.Dec.{eqb}
+use lib.ListN.{getD}
+use mir.Val.{boolByte}
+use Rattle.word.specs.Word.{flagOf, countBelow}
+use Rattle.word.proofs.Counts.{count-step, count-most}
+use Rattle.row_search.proofs.count_of.Statement.{statement}
+use Rattle.row_search.proofs.count_of.Tie as tie
+
+abbrev Inv-loop : tie.InvT-loop
+Inv-loop numbers x count₀ k₀ count k = (k ≤ 32) × (count ≡ countBelow k (λ j. eqb (getD numbers j 0) x))
+
+abbrev μ-loop : tie.MeasureT-loop
+μ-loop numbers x count₀ k₀ count k = 32 - k
+
+loop-holds : tie.Need-loop-holds Inv-loop μ-loop
+unfolding countBelow
+loop-holds c = (omega arith, refl)
+
+-- a test's truth value as a number
+flag : (b : Bool) → boolByte b ≡ flagOf b
+flag true = refl
+flag false = refl
+
+abbrev test : tie.At-loop Inv-loop μ-loop → ℕ → Bool
+test c j = eqb (getD (c .before .args .numbers .now) j 0) (c .before .args .x)
+
+next : (c : tie.At-loop Inv-loop μ-loop) → countBelow (c .loop .k + 1) (test c) ≡ c .loop .count + boolByte (test c (c .loop .k))
+next c = omega (arith, count-step (c .loop .k) (test c), c .loop .inv .1, flag (test c (c .loop .k)))
+
+add-count : tie.Need-add-count Inv-loop μ-loop
+add-count c =
+    let a = c .before .before in
+    omega (arith, next a, count-most (a .loop .k + 1) (test a))
+
+loop-again : tie.Need-loop-again Inv-loop μ-loop
+loop-again c = (omega arith, sym (next (c .before .before)))
+
+returns : tie.Need-returns Inv-loop μ-loop
+returns c =
+    let a = c .before in
+    let e : a .loop .k ≡ 32 = omega (arith, a .loop .inv .0) in
+    rw e at (a .loop .inv .1)
+
+pub count-of-spec : {M : Type 1} → statement M
+count-of-spec =
+    tie.close
+    (tie.spec
+    Inv-loop
+    μ-loop
+    loop-holds
+    (λ c. search needs)
+    (λ c. search needs)
+    (λ c. search needs)
+    add-count
+    (λ c. search needs)
+    (λ c. search needs)
+    loop-again
+    returns)

@@ -1,0 +1,183 @@
+//! Counts of a run, with the floors below which it fails.
+
+use super::large::Large;
+use super::{FormJob, PLAN};
+use crate::jobs::tally::{least, with_floors, Counts};
+use crate::layout::{Job, MOST_ROWS};
+use hanthuvelo::Form;
+use std::collections::BTreeSet;
+
+/// Floors out of ten thousand jobs: of the kinds whose form is not known, and of what was found. Each
+/// kind that fixes the outcome has its whole share as its floor.
+const FLOORS: [(&str, usize); 30] = [
+    ("accepted: AsRecovered", 1000),
+    ("refused 5: AsRecovered", 20),
+    ("refused 6: AsRecovered", 20),
+    ("accepted: Damaged", 25),
+    ("refused 3: Damaged", 30),
+    ("refused 5: Damaged", 30),
+    ("refused 2: RandomBytes", 30),
+    ("refused 3: RandomBytes", 30),
+    ("refused 5: RandomBytes", 20),
+    ("refused 1, no byte", 50),
+    ("refused 1, one byte", 50),
+    ("refused 1, two bytes", 50),
+    ("accepted, with an answer", 1000),
+    ("accepted, without an answer", 1000),
+    ("accepted, points rising", 300),
+    ("accepted, points falling", 300),
+    ("accepted, points in no order", 300),
+    ("accepted, the point 0", 300),
+    ("accepted, the point p - 1", 300),
+    ("accepted, no row too many", 1000),
+    ("accepted, rows to spare", 300),
+    ("refused 5, row 0", 400),
+    ("refused 5, a row between", 400),
+    ("refused 5, the last row", 400),
+    ("refused 5, a point repeated before", 100),
+    ("refused 6, row 1", 200),
+    ("refused 6, the last row", 400),
+    ("refused 6, the point 0", 200),
+    ("refused 6, the point p - 1", 200),
+    ("refused 6, more rows than p", 200),
+];
+
+/// Floors out of a hundred thousand jobs for each prime and for each number of rows, with each number
+/// of outputs: of the accepted jobs, then of those refused with 2 to 6.
+const EACH_FLOORS: [(u32, usize, usize); 6] = [
+    (0, 500, 60),
+    (2, 100, 0),
+    (3, 100, 0),
+    (4, 100, 0),
+    (5, 500, 60),
+    (6, 500, 60),
+];
+
+/// Jobs with one outcome and one number of outputs, by prime and by number of rows.
+#[derive(Clone, Copy, Default)]
+struct Sizes {
+    primes: [usize; 4],
+    rows: [usize; MOST_ROWS + 1],
+}
+
+#[derive(Default)]
+pub struct Tally {
+    jobs: usize,
+    counts: Counts,
+    sizes: [[Sizes; 4]; 7],
+    large: BTreeSet<Large>,
+}
+
+impl Tally {
+    /// Counts a job by what the check of its form found, and by whether a recovery answers it.
+    pub fn count(&mut self, job: &FormJob, form: Form, is_answered: bool) {
+        let outcome = outcome(form.refusal);
+        self.jobs += 1;
+        self.large.extend(job.large);
+        self.counts.add(&format!("{outcome}: {:?}", job.kind), true);
+        if form.refusal == 1 {
+            let bytes = ["no byte", "one byte", "two bytes"][job.bytes.len()];
+            return self.counts.add(&format!("refused 1, {bytes}"), true);
+        }
+        let read = Job::unpack(&job.bytes);
+        let sizes = &mut self.sizes[form.refusal as usize][read.outputs - 1];
+        sizes.primes[read.prime_code] += 1;
+        if form.refusal == 0 || form.refusal > 3 {
+            sizes.rows[read.rows.len()] += 1;
+        }
+        let points: Vec<u32> = read.rows.iter().map(|row| row.point).collect();
+        match form.refusal {
+            0 => self.count_accepted(&read, &points, is_answered),
+            5 => self.count_large(&points, form.row as usize),
+            6 => self.count_repeated(&points, form.row as usize, read.prime()),
+            _ => {}
+        }
+    }
+
+    fn count_accepted(&mut self, job: &Job, points: &[u32], is_answered: bool) {
+        let counts = &mut self.counts;
+        counts.add("accepted, with an answer", is_answered);
+        counts.add("accepted, without an answer", !is_answered);
+        let is_rising = points.is_sorted();
+        let is_falling = points.iter().rev().is_sorted();
+        counts.add("accepted, points rising", is_rising);
+        counts.add("accepted, points falling", is_falling);
+        counts.add("accepted, points in no order", !is_rising && !is_falling);
+        counts.add("accepted, the point 0", points.contains(&0));
+        let highest = job.prime() - 1;
+        counts.add("accepted, the point p - 1", points.contains(&highest));
+        let is_least = points.len() == job.needed_rows();
+        counts.add("accepted, no row too many", is_least);
+        counts.add("accepted, rows to spare", !is_least);
+    }
+
+    fn count_large(&mut self, points: &[u32], row: usize) {
+        let counts = &mut self.counts;
+        let last = points.len() - 1;
+        counts.add("refused 5, row 0", row == 0);
+        counts.add("refused 5, a row between", 0 < row && row < last);
+        counts.add("refused 5, the last row", row == last);
+        let repeats = |later: usize| points[..later].contains(&points[later]);
+        let is_repeated = (0..row).any(repeats);
+        counts.add("refused 5, a point repeated before", is_repeated);
+    }
+
+    fn count_repeated(&mut self, points: &[u32], row: usize, prime: u32) {
+        let counts = &mut self.counts;
+        counts.add("refused 6, row 1", row == 1);
+        counts.add("refused 6, the last row", row == points.len() - 1);
+        counts.add("refused 6, the point 0", points[row] == 0);
+        counts.add("refused 6, the point p - 1", points[row] == prime - 1);
+        let is_crowded = points.len() > prime as usize;
+        counts.add("refused 6, more rows than p", is_crowded);
+    }
+
+    /// The least count of a prime and of a number of rows, for each outcome and number of outputs.
+    fn size_lines(&self) -> Vec<(String, usize, usize)> {
+        let mut lines = Vec::new();
+        for (refusal, of_prime, of_rows) in EACH_FLOORS {
+            let least_rows = if refusal == 6 { 2 } else { 1 };
+            for (index, sizes) in self.sizes[refusal as usize].iter().enumerate() {
+                let name = format!("{}, outputs: {}, least of", outcome(refusal), index + 1);
+                let floor = |share: usize| self.jobs * share / 100_000;
+                lines.push((
+                    format!("{name} all p"),
+                    least(&sizes.primes),
+                    floor(of_prime),
+                ));
+                if of_rows > 0 {
+                    let count = least(&sizes.rows[least_rows..]);
+                    lines.push((format!("{name} all L"), count, floor(of_rows)));
+                }
+            }
+        }
+        lines
+    }
+
+    /// All counts as text, and whether each reaches its floor.
+    pub fn summary(&self) -> (String, bool) {
+        let of_plan = PLAN.into_iter().filter_map(|(kind, parts)| {
+            let name = format!("{}: {kind:?}", outcome(kind.refusal()?));
+            let count = self.counts.of(&name);
+            Some((name, count, self.jobs / 100 * parts))
+        });
+        let others = FLOORS.into_iter().map(|(name, floor)| {
+            let floor = self.jobs * floor / 10_000;
+            (name.to_string(), self.counts.of(name), floor)
+        });
+        let numbers = "numbers of p or more, with places";
+        let whole = [
+            ("jobs".to_string(), self.jobs, 50_000),
+            (numbers.to_string(), self.large.len(), Large::COMBINATIONS),
+        ];
+        let lines = whole.into_iter().chain(of_plan).chain(others);
+        with_floors(lines.chain(self.size_lines()))
+    }
+}
+
+fn outcome(refusal: u32) -> String {
+    match refusal {
+        0 => "accepted".to_string(),
+        number => format!("refused {number}"),
+    }
+}
