@@ -3,6 +3,8 @@
 #[path = "support/made.rs"]
 mod made;
 mod support;
+#[path = "support/words.rs"]
+mod words;
 
 use hanthuvelo::hex;
 use made::{Made, ACCEPTED};
@@ -12,6 +14,7 @@ use support::{
     assert_bad_use, assert_done, assert_fails, assert_prints, example_names, file, folder, run,
     run_on, stream_jobs, Run,
 };
+use words::REFUSED;
 
 const SEED: u64 = 42;
 
@@ -19,20 +22,14 @@ fn bytes(text: &str) -> Vec<u8> {
     hex::bytes(text).expect("bytes")
 }
 
-/// What is said of the paper's examples of refusals, in its order. The area and the answer, of which 7 and 8 speak, are not
-/// looked at.
-const SAID: [&str; 10] = [
-    "refused 1: expected 3 bytes or more, found 2",
-    "refused 2: the header's last bit is 1",
-    "refused 3: the header asks for 15 bytes, the job has 5",
-    "refused 4: df + dg + 2 E + 1 is 3, the job has 2 rows",
-    "refused 5, row 2: a point or a value is 7 or more",
-    "refused 6, row 2: its point 0 stands in an earlier row",
-    ACCEPTED,
-    ACCEPTED,
-    "refused 4: df + dg + 2 E + 1 is 1, the job has 0 rows",
-    "refused 3: the header asks for 3 bytes, the job has 4",
-];
+/// What a check says of a job that a recovery refuses in these words: the area and the answer, of which 7 and 8 speak, are
+/// not looked at.
+fn said_of_form(refused: &'static str) -> &'static str {
+    match refused.as_bytes()[8] {
+        b'7' | b'8' => ACCEPTED,
+        _ => refused,
+    }
+}
 
 /// The object of a job, from its place and what is said of it in words.
 fn object(place: &str, said: &str) -> String {
@@ -49,8 +46,8 @@ fn object(place: &str, said: &str) -> String {
 #[test]
 fn each_refusal_is_said() {
     let folder = folder("check-paper");
-    assert_eq!(REFUSALS.len(), SAID.len());
-    for (example, said) in REFUSALS.iter().zip(SAID) {
+    assert_eq!(REFUSALS.len(), REFUSED.len());
+    for (example, said) in REFUSALS.iter().zip(REFUSED.map(said_of_form)) {
         let job = bytes(example.job);
         let name = file(&folder, "job", &job);
         let status = i32::from(said != ACCEPTED);

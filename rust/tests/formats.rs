@@ -275,7 +275,12 @@ fn any_text_and_any_bytes_are_read_or_named() {
 }
 
 #[cfg(feature = "library")]
+#[path = "support/words.rs"]
+mod words;
+
+#[cfg(feature = "library")]
 mod with_library {
+    use super::words::REFUSED;
     use super::{hex, Header};
     use hanthuvelo::{check, recover, Job, Refusal};
     use outside_checks::paper::{EXAMPLES, REFUSALS};
@@ -283,20 +288,8 @@ mod with_library {
     /// The words of each refusal, by the paper's table; those of 1 to 6 are said by a check too.
     #[test]
     fn refusals_are_said_in_words() {
-        let expected = [
-            "refused 1: expected 3 bytes or more, found 2",
-            "refused 2: the header's last bit is 1",
-            "refused 3: the header asks for 15 bytes, the job has 5",
-            "refused 4: df + dg + 2 E + 1 is 3, the job has 2 rows",
-            "refused 5, row 2: a point or a value is 7 or more",
-            "refused 6, row 2: its point 0 stands in an earlier row",
-            "refused 7: the answer needs 8 bytes",
-            "refused 8: no reduced answer within df 0 and dg 0 has at most 1 wrong row",
-            "refused 4: df + dg + 2 E + 1 is 1, the job has 0 rows",
-            "refused 3: the header asks for 3 bytes, the job has 4",
-        ];
-        assert_eq!(REFUSALS.len(), expected.len());
-        for (example, words) in REFUSALS.iter().zip(expected) {
+        assert_eq!(REFUSALS.len(), REFUSED.len());
+        for (example, words) in REFUSALS.iter().zip(REFUSED) {
             let job = hex::bytes(example.job).expect("the paper's job");
             let report = recover(&job, &mut vec![0; example.area_length]);
             let refusal = Refusal::of(report, &job).expect("a refusal");

@@ -1,6 +1,7 @@
 //! `hanthuvelo check`: whether jobs meet the refusals of their form, without recovering them.
 
 use crate::arguments::Known;
+use crate::many::{files_help, options_help};
 use crate::output::Failure;
 use crate::render::{accepted_json, Place};
 use crate::results::{Results, Target, Work};
@@ -8,24 +9,23 @@ use crate::{many, Status};
 use hanthuvelo::Refusal;
 use std::ffi::OsString;
 
-pub const HELP: &str = "\
+pub const HELP: &str = concat!(
+    "\
 usage: hanthuvelo check [OPTION].. FILE..
 
 Prints for each job `accepted`, or the first of the refusals 1 to 6 that applies, in the words of `recover`. It recovers
 nothing: an accepted job is one that `recover` recovers, or refuses with 8, as it has no answer.
-FILE is a job as bytes, or a readable one, told apart by its bytes; - is standard input; of a folder all files
-that end in .job are taken, by their names.
-
+",
+    files_help!(),
+    "
   --refused      the refused jobs alone; the accepted ones are counted in the summary
   --json         one object of JSON a line, for programs
-  --stream       each FILE is a binary stream of jobs, back to back
-  --readable     each FILE is a readable job
-  --binary       each FILE is a job as bytes
-  --threads N    work on N cores; without this, on all
-  --quiet        no progress and no summary on standard error
-
+",
+    options_help!(),
+    "
 Exit status: 0 all jobs are accepted; 1 a job was refused; 2 bad use, or an input that cannot be read.
-";
+"
+);
 
 pub fn run(words: &[OsString]) -> Result<Status, Failure> {
     let arguments = many::arguments(words, &[Known::Flag("--refused")])?;

@@ -21,6 +21,31 @@ const KNOWN: [Known; 6] = [
     Known::Flag("--quiet"),
 ];
 
+/// What the help of both verbs says of their files.
+macro_rules! files_help {
+    () => {
+        "\
+FILE is a job as bytes, or a readable one, told apart by its bytes; - is standard input; of a folder all files
+that end in .job are taken, by their names.
+"
+    };
+}
+
+/// What it says of the shared options but `--json`, which each verb has beside its own.
+macro_rules! options_help {
+    () => {
+        "\
+\x20 --stream       each FILE is a binary stream of jobs, back to back
+  --readable     each FILE is a readable job
+  --binary       each FILE is a job as bytes
+  --threads N    work on N cores; without this, on all
+  --quiet        no progress and no summary on standard error
+"
+    };
+}
+
+pub(crate) use {files_help, options_help};
+
 /// The words behind a verb that knows these options besides the shared ones.
 pub fn arguments(words: &[OsString], own: &[Known]) -> Result<Arguments, Failure> {
     let arguments = Arguments::parse(words, &[own, &KNOWN].concat())?;

@@ -1,6 +1,7 @@
 //! `hanthuvelo recover`: the library on one job or on many.
 
 use crate::arguments::{Arguments, Known};
+use crate::many::{files_help, options_help};
 use crate::output::Failure;
 use crate::render::{Place, Recovered};
 use crate::results::{Results, Target, Work};
@@ -8,24 +9,23 @@ use crate::{many, Status};
 use hanthuvelo::{hex, Refusal, LONGEST_ANSWER};
 use std::ffi::OsString;
 
-pub const HELP: &str = "\
+pub const HELP: &str = concat!(
+    "\
 usage: hanthuvelo recover [OPTION].. FILE..
 
 Prints for each job the outputs as fractions and the wrong rows with their points, or the refusal in words.
-FILE is a job as bytes, or a readable one, told apart by its bytes; - is standard input; of a folder all files
-that end in .job are taken, by their names.
-
+",
+    files_help!(),
+    "
   --json         one object of JSON a line, for programs
   --bytes        the recovered bytes alone, back to back; refusals go to standard error
   --hex          with --bytes: hexadecimal text, a line for each job
-  --stream       each FILE is a binary stream of jobs, back to back
-  --readable     each FILE is a readable job
-  --binary       each FILE is a job as bytes
-  --threads N    work on N cores; without this, on all
-  --quiet        no progress and no summary on standard error
-
+",
+    options_help!(),
+    "
 Exit status: 0 all jobs are recovered; 1 a job was refused; 2 bad use, or an input that cannot be read.
-";
+"
+);
 
 const OWN: [Known; 2] = [Known::Flag("--bytes"), Known::Flag("--hex")];
 
