@@ -20,52 +20,71 @@
 extern "C" {
 #endif
 
-/* The most bytes that a job can have: 31 rows, 4 outputs. An area of this length is long enough for any trial job. */
-#define HANTHUVELO_JOB_MAX 313
+/*
+ * The most bytes that a job can have: the longer header, 31 rows, 4 outputs. An area of this length is long enough for any
+ * trial job.
+ */
+#define HANTHUVELO_JOB_MAX 317
 
 /* The most bytes that an answer can have; an area of this length is never refused as too short. */
 #define HANTHUVELO_ANSWER_MAX 254
 
 /*
- * A job. Its numbers are packed with the most significant bit first.
+ * A job. Its numbers are packed with the most significant bit first. It begins with a header, short or longer:
  *
  *   bits  field
  *   2     prime: 0 is 7, 1 is 97, 2 is 257, 3 is 65521
  *   2     n - 1, for n outputs
  *   5     L, the number of rows
- *   5     df, the degree bound of every f
+ *   5     df, the largest degree bound of an f
  *   5     dg, the degree bound of g
  *   4     E, how many rows may be wrong
- *   1     0
+ *   1     the spare bit: 0 in the short header, which ends here, 3 bytes; 1 in the longer one, of 7 bytes
  *
- * L rows follow, each a point and n values, 16 bits a number: 3 + 2 L (1 + n) bytes in all.
+ * The short header bounds the degree of every f by df. The longer one has a bound for each, in four bytes more:
+ *
+ *   bits  field
+ *   5     d1, the degree bound of f1
+ *   5     d2, that of f2; 0 if n is 1
+ *   5     d3, that of f3; 0 if n is 2 or less
+ *   5     d4, that of f4; 0 if n is 3 or less
+ *   12    flag bits, all 0
+ *
+ * df is the largest of d1 .. dn. With the short header d1 .. dn are df, here and below; a job with the longer header and
+ * equal bounds has the same answer, byte for byte.
+ *
+ * L rows follow, each a point and n values, 16 bits a number: 3 + 2 L (1 + n) bytes in all with the short header,
+ * 7 + 2 L (1 + n) with the longer one.
  *
  * An answer. A 32-bit word comes first: row r, counted from 0, has the bit r places below the top, and a 1 says
- * that the row is wrong. Then dg + 1 coefficients of g, and df + 1 of each of f1 .. fn, each from the constant
- * term upward, 16 bits a number, most significant byte first: 4 + 2 ((dg + 1) + n (df + 1)) bytes in all.
+ * that the row is wrong. Then dg + 1 coefficients of g, d1 + 1 of f1, and so on up to dn + 1 of fn, each from the constant
+ * term upward, 16 bits a number, most significant byte first: 4 + 2 ((dg + 1) + (d1 + 1) + .. + (dn + 1)) bytes in all.
  * g has leading coefficient 1, and no polynomial of positive degree divides g and every f. A row is right if
  * fi(x) = g(x) yi modulo p for every i.
  */
 
 /*
- * The refusals; the first that applies is returned. A recovery tests 1 to 8 in this order, a check 1 to 6, a trial 1, 2, 3,
- * 4, 9, 5, 10 and 7, as said at hanthuvelo_trial, a judgement 1 to 6 and then 3, as said at hanthuvelo_judge.
+ * The refusals; the first that applies is returned. A recovery tests 1, 11, 3, 4, 5, 6, 7 and 8 in this order, a check
+ * 1, 11, 3, 4, 5 and 6, a trial 1, 11, 3, 4, 9, 5, 10 and 7, as said at hanthuvelo_trial, a judgement 1, 11, 3, 4, 5, 6 and
+ * then 3 again, as said at hanthuvelo_judge.
  */
 enum {
     HANTHUVELO_RECOVERED = 0,      /* not refused: the area begins with the answer */
-    HANTHUVELO_ACCEPTED = 0,       /* of a check: none of 1 to 6 applies */
+    HANTHUVELO_ACCEPTED = 0,       /* of a check: none of 1, 11, 3, 4, 5 and 6 applies */
     HANTHUVELO_WRITTEN = 0,        /* of a trial: the area begins with the job */
     HANTHUVELO_JUDGED = 0,         /* of a judgement: the offered answer is judged */
-    HANTHUVELO_TOO_SHORT = 1,      /* the job has fewer than 3 bytes */
-    HANTHUVELO_SPARE_BIT = 2,      /* the header's last bit is 1 */
+    HANTHUVELO_TOO_SHORT = 1,      /* the job has fewer than 3 bytes, or fewer than 7 and the spare bit is 1 */
+    HANTHUVELO_SPARE_BIT = 2,      /* the header's last bit is 1; no longer given for jobs, trials and offered answers */
     HANTHUVELO_BYTE_COUNT = 3,     /* the job has not the number of bytes that its header fixes */
     HANTHUVELO_TOO_FEW_ROWS = 4,   /* L is below df + dg + 2 E + 1 */
     HANTHUVELO_OUT_OF_RANGE = 5,   /* a point or a value is p or more; `row` is the first such row */
     HANTHUVELO_REPEATED_POINT = 6, /* a point stands in an earlier row; `row` is the first such later row */
     HANTHUVELO_AREA_TOO_SHORT = 7, /* the area is shorter than the answer */
-    HANTHUVELO_NO_ANSWER = 8,      /* no reduced fractions within df and dg are wrong at E rows or fewer */
+    HANTHUVELO_NO_ANSWER = 8,      /* no reduced fractions within d1 .. dn and dg are wrong at E rows or fewer */
     HANTHUVELO_TOO_MANY_ROWS = 9,  /* of a trial alone: L is above p, or more rows are to be spoiled than L */
-    HANTHUVELO_NOT_REDUCED = 10    /* of a trial alone: the fractions are not reduced */
+    HANTHUVELO_NOT_REDUCED = 10,   /* of a trial alone: the fractions are not reduced */
+    HANTHUVELO_ADDED_HEADER = 11   /* a longer header has a flag bit that is 1, a bound other than 0 for an output that
+                                      does not exist, or a df that is not the largest bound */
 };
 
 /* What a recovery returns. */
@@ -95,13 +114,13 @@ struct hanthuvelo_report hanthuvelo_recover(const uint8_t *job, size_t job_lengt
 
 /* What a check of a job's form returns. */
 struct hanthuvelo_refusal {
-    uint32_t refusal; /* 0 if the job is accepted, else the number of the refusal, 1 to 6 */
+    uint32_t refusal; /* 0 if the job is accepted, else the number of the refusal: 1, 11, 3, 4, 5 or 6 */
     uint32_t row;     /* the row that refusal 5 or 6 speaks of, counted from 0; else 0 */
 };
 
 /*
- * Checks the form of the job of job_length bytes at `job`: returns the first of the refusals 1 to 6 that applies, tested in
- * this order, with the row that 5 or 6 speaks of, and refusal 0 and row 0 if none does.
+ * Checks the form of the job of job_length bytes at `job`: returns the first of the refusals 1, 11, 3, 4, 5 and 6 that
+ * applies, tested in this order, with the row that 5 or 6 speaks of, and refusal 0 and row 0 if none does.
  *
  * It recovers nothing and has no area. A job that is refused here is refused by a recovery in the same way, whatever its
  * area. One that is accepted is recovered, or refused with 7 or 8, which depend on the area and on the answer.
@@ -135,14 +154,14 @@ struct hanthuvelo_written {
  *
  * Refused, in this order:
  *
- *   1   the header has fewer than 3 bytes
- *   2   its last bit is 1
- *   3   it has more than 3 bytes, or the coefficients are not 2 ((dg + 1) + n (df + 1)) bytes
+ *   1   the header has fewer than 3 bytes, or fewer than 7 and the spare bit is 1
+ *   11  it is a longer one and breaks a rule
+ *   3   bytes follow it, or the coefficients are not 2 ((dg + 1) + (d1 + 1) + .. + (dn + 1)) bytes
  *   4   L is below df + dg + 2 E + 1
  *   9   L is above p, or `spoiled` is above L
  *   5   a coefficient is p or more
  *   10  g is zero, its leading coefficient is not 1, or a polynomial of positive degree divides g and every f
- *   7   the area is shorter than the job, which has 3 + 2 L (1 + n) bytes
+ *   7   the area is shorter than the job, which has 3 + 2 L (1 + n) bytes with a short header, 7 + 2 L (1 + n) with a longer
  *
  * Any bytes are taken, and any lengths, `start` and `spoiled`. Bytes of the area behind the job keep what they held; if
  * the call is refused, the whole area does. Header and coefficients are only read, and may overlap each other.
@@ -175,7 +194,7 @@ struct hanthuvelo_reciprocal hanthuvelo_reciprocal(uint32_t prime_code, uint32_t
 
 /* What a call that judges an offered answer returns. */
 struct hanthuvelo_judgement {
-    uint32_t refusal; /* 0 if the answer is judged, else the number of the refusal, 1 to 6 */
+    uint32_t refusal; /* 0 if the answer is judged, else the number of the refusal: 1, 11, 3, 4, 5 or 6 */
     uint32_t row;     /* the row of the job that refusal 5 or 6 speaks of, counted from 0; else 0 */
     uint32_t yes;     /* 1 if the offered answer is the job's, else 0 */
 };
@@ -189,8 +208,8 @@ struct hanthuvelo_judgement {
  * that divides g and every f, a word that marks other rows than the wrong ones, or a row that does not exist, and more
  * wrong rows than E.
  *
- * Refused, in this order: 1 to 6 as a recovery of the job is, and then 3 also if the offered answer has not
- * 4 + 2 ((dg + 1) + n (df + 1)) bytes.
+ * Refused, in this order: 1, 11, 3, 4, 5, 6 as a recovery of the job is, and then 3 also if the offered answer has not
+ * 4 + 2 ((dg + 1) + (d1 + 1) + .. + (dn + 1)) bytes.
  *
  * Any bytes make a job, and any bytes an offered answer. Both are only read, and may overlap. The caller sees to it that
  * each pointer leads to as many bytes as the length beside it says, and that nothing writes to them until the call

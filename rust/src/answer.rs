@@ -1,7 +1,6 @@
 //! An answer: the wrong rows and the polynomials, and the bytes that hold them.
 
-use crate::job::{counted, numbers};
-use crate::trial::output_name;
+use crate::format::{counted, numbers, output_name};
 use crate::{Bounds, FormatError};
 
 /// A recovered answer: the word of wrong rows, and coefficients up to the degree bounds.
@@ -11,7 +10,7 @@ pub struct Answer {
     pub word: u32,
     /// The coefficients of g from the constant term upward, dg + 1 of them.
     pub denominator: Vec<u16>,
-    /// Those of each f, df + 1 of them.
+    /// Those of each f, its bound plus 1 of them.
     pub numerators: Vec<Vec<u16>>,
 }
 
@@ -51,7 +50,7 @@ impl Answer {
         Answer {
             word: u32::from(word[0]) << 16 | u32::from(word[1]),
             denominator: take(bounds.dg + 1),
-            numerators: (0..bounds.outputs).map(|_| take(bounds.df + 1)).collect(),
+            numerators: bounds.numerator_lengths().map(take).collect(),
         }
     }
 

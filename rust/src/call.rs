@@ -100,7 +100,8 @@ mod linked {
         unsafe { hanthuvelo_judge(job.as_ptr(), job.len(), answer.as_ptr(), answer.len()) }
     }
 
-    /// Checks the form of a job: the first of the refusals 1 to 6 that applies, if one does. Nothing is recovered.
+    /// Checks the form of a job: the first of the refusals 1, 11, 3, 4, 5 and 6 that applies, if one does. Nothing is
+    /// recovered.
     ///
     /// Any bytes make a job. What is refused here is refused by a recovery in the same way. What is accepted is recovered, or
     /// refused with 7 or 8, which depend on the area and on the answer.
@@ -142,7 +143,8 @@ impl Job {
         }
     }
 
-    /// Whether this job's form is as it should be, or which of the refusals 1 to 6 it meets first.
+    /// Whether this job's form is as it should be, or which refusal of the form it meets first: 4, 5 or 6, as the bytes of a
+    /// `Job` are whole and their header breaks no rule.
     ///
     /// The job is not recovered for that: an accepted one may still have no answer.
     ///

@@ -1,9 +1,9 @@
 //! Hanthuvelo: exact fractions f1/g .. fn/g over one denominator, from values modulo a prime of which some are wrong.
 //!
-//! A [`Job`] has rows, each a point and n values, and bounds: for the degrees of the f and of g, and for how many rows may
-//! be wrong. The library returns **the** reduced fractions within the bounds and exactly the wrong rows ([`Answer`]), or a
-//! numbered [`Refusal`]. What it returns is proved to be that, for every input; this crate is the boundary to it, with the
-//! formats of a job and of an answer, and is tested.
+//! A [`Job`] has rows, each a point and n values, and bounds: for the degrees of the f, one for all or one for each, for that
+//! of g, and for how many rows may be wrong. The library returns **the** reduced fractions within the bounds and exactly the
+//! wrong rows ([`Answer`]), or a numbered [`Refusal`]. What it returns is proved to be that, for every input; this crate is
+//! the boundary to it, with the formats of a job and of an answer, and is tested.
 //!
 //! ```
 //! # #[cfg(feature = "library")] {
@@ -28,7 +28,20 @@
 //! # }
 //! ```
 //!
-//! [`Job::check`] says whether a job meets one of the refusals 1 to 6, those of its form, without recovering it.
+//! Each f can have a bound of its own, [`NumeratorBounds::Each`]; an answer has as many coefficients of it as that asks for.
+//!
+//! ```
+//! # #[cfg(feature = "library")] {
+//! use hanthuvelo::Job;
+//!
+//! // 1 / (1 + u) and u / (1 + u) modulo 7.
+//! let job: Job = "prime 7 outputs 2 df 0 1 dg 1 errors 0\n0: 1 0\n1: 4 4\n2: 5 3".parse().expect("a readable job");
+//! let answer = job.recover().expect("an answer");
+//! assert_eq!(answer.numerators, [vec![1], vec![0, 1]]);
+//! # }
+//! ```
+//!
+//! [`Job::check`] says whether a job meets one of the refusals 1, 11 and 3 to 6, those of its form, without recovering it.
 //!
 //! A [`Trial`] is the way back: a job whose result is known, written from fractions, with rows spoiled on purpose.
 //!
@@ -45,26 +58,34 @@
 #![warn(missing_docs)]
 
 mod answer;
+mod bounds;
 #[cfg(feature = "library")]
 mod call;
 mod field;
+mod format;
+mod header;
 pub mod hex;
 mod job;
 mod objection;
+mod prime;
 pub mod readable;
 mod refusal;
 mod trial;
 
 pub use answer::{polynomial_text, trimmed, Answer};
+pub use bounds::{Bounds, NumeratorBounds};
 #[cfg(feature = "library")]
 pub use call::{check, judge, reciprocal, recover, trial};
-pub use job::{Bounds, FormatError, Header, Job, Prime, Row};
+pub use format::FormatError;
+pub use header::{BrokenRule, Header};
+pub use job::{Job, Row};
 pub use objection::{objection, Fault, Objection};
+pub use prime::Prime;
 pub use refusal::Refusal;
 pub use trial::Trial;
 
-/// The most bytes that a job can have: 31 rows, four outputs.
-pub const LONGEST_JOB: usize = 313;
+/// The most bytes that a job can have: the longer header, 31 rows, four outputs.
+pub const LONGEST_JOB: usize = 317;
 /// The most bytes that an answer can have; an area of this length is never refused as too short.
 pub const LONGEST_ANSWER: usize = 254;
 
@@ -74,7 +95,7 @@ pub const LONGEST_ANSWER: usize = 254;
 #[repr(C)]
 #[derive(Clone, Copy, Debug, PartialEq, Eq)]
 pub struct Report {
-    /// The refusal's number, 1 to 8; 0 where the job is recovered.
+    /// The refusal's number, 1, 11 or 3 to 8; 0 where the job is recovered.
     pub refusal: u32,
     /// The row that refusal 5 or 6 speaks of, counted from 0; else 0.
     pub row: u32,
@@ -117,7 +138,7 @@ impl Report {
 #[repr(C)]
 #[derive(Clone, Copy, Debug, PartialEq, Eq)]
 pub struct Written {
-    /// The refusal's number, 1 to 5, 7, 9 or 10; 0 where the job is written.
+    /// The refusal's number, 1, 11, 3, 4, 9, 5, 10 or 7; 0 where the job is written.
     pub refusal: u32,
     /// 0: no refusal of a trial names a row.
     pub row: u32,
@@ -156,7 +177,7 @@ impl Written {
 #[repr(C)]
 #[derive(Clone, Copy, Debug, PartialEq, Eq)]
 pub struct Judgement {
-    /// The refusal's number, 1 to 6; 0 where the answer is judged.
+    /// The refusal's number, 1, 11 or 3 to 6; 0 where the answer is judged.
     pub refusal: u32,
     /// The row of the job that refusal 5 or 6 speaks of, counted from 0; else 0.
     pub row: u32,
@@ -200,14 +221,14 @@ impl Judgement {
 #[repr(C)]
 #[derive(Clone, Copy, Debug, PartialEq, Eq)]
 pub struct Form {
-    /// The refusal's number, 1 to 6; 0 where none of these tests refuses the job.
+    /// The refusal's number, 1, 11 or 3 to 6; 0 where none of these tests refuses the job.
     pub refusal: u32,
     /// The row that refusal 5 or 6 speaks of, counted from 0; else 0.
     pub row: u32,
 }
 
 impl Form {
-    /// What a call returns for a job that none of the tests 1 to 6 refuses.
+    /// What a call returns for a job that none of the tests 1, 11 and 3 to 6 refuses.
     pub const ACCEPTED: Form = Form { refusal: 0, row: 0 };
 
     /// What a call returns for a job that is refused with this number, speaking of this row.
@@ -218,7 +239,7 @@ impl Form {
         }
     }
 
-    /// Whether none of the tests 1 to 6 refuses the job.
+    /// Whether none of the tests 1, 11 and 3 to 6 refuses the job.
     pub fn is_accepted(&self) -> bool {
         self.refusal == 0
     }

@@ -1,8 +1,7 @@
 //! Why an offered answer is not the job's, in words.
 
 use crate::field::Field;
-use crate::job::counted;
-use crate::trial::output_name;
+use crate::format::{counted, output_name};
 use crate::{polynomial_text, trimmed, Answer, Bounds, Job, Row};
 use std::fmt::{Display, Formatter};
 

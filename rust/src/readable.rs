@@ -10,6 +10,10 @@
 //! 2: 5 3
 //! ```
 //!
+//! Here `df` bounds the degree of every f, and the job's bytes begin with the short header, of 3 bytes. With a number for
+//! each output, as in `outputs 3 df 4 1 2`, each f has a bound of its own, and the bytes begin with the longer header, of 7.
+//! Where there is one output, `df 4 long` is that bound with the longer header.
+//!
 //! A trial has the same first line, then one for the number of rows and for what is spoiled, and a line for each polynomial:
 //!
 //! ```text
@@ -22,9 +26,11 @@
 //!
 //! A [`Job`] and a [`Trial`](crate::Trial) are read by `parse` and written by `to_string`.
 
+mod first_line;
 mod trial;
 
-use crate::{Bounds, FormatError, Job, Prime, Row};
+use crate::{FormatError, Job, Row};
+use first_line::{header_text, parse_header, HEADER};
 use std::error::Error;
 use std::fmt::{Display, Formatter};
 use std::str::FromStr;
@@ -46,8 +52,6 @@ impl Display for TextError {
 }
 
 impl Error for TextError {}
-
-const HEADER: &str = "prime P outputs N df D dg D errors E";
 
 /// Whether bytes are meant as a readable job: they begin with a character of ASCII and have no control character but blanks.
 ///
@@ -134,30 +138,30 @@ impl<'a> Lines<'a> {
     }
 }
 
-/// The words behind the labels of a line that has this form, as `df D dg D`.
-fn labelled<'a>(content: &'a str, form: &str) -> Result<Vec<&'a str>, FormatError> {
+/// The words behind each label of a line that has this form, as `df D.. dg D`: one, or some where the form has `..`.
+fn labelled<'a>(content: &'a str, form: &'a str) -> Result<Vec<Vec<&'a str>>, FormatError> {
     let words: Vec<&str> = content.split_whitespace().collect();
-    let labels = form.split_whitespace().step_by(2);
-    let is_whole = words.len() == form.split_whitespace().count();
-    if !is_whole || !labels.eq(words.iter().copied().step_by(2)) {
+    let form_words: Vec<&str> = form.split_whitespace().collect();
+    groups(&words, &form_words).ok_or_else(|| {
         let found = excerpt(content);
-        return Err(FormatError(format!("expected `{form}`, found {found}")));
-    }
-    Ok(words.into_iter().skip(1).step_by(2).collect())
+        FormatError(format!("expected `{form}`, found {found}"))
+    })
 }
 
-fn parse_header(content: &str) -> Result<Bounds, FormatError> {
-    let words = labelled(content, HEADER)?;
-    let prime = Prime::try_from(u32::from(number(words[0], "prime")?))?;
-    let field = |place: usize, name: &str| number(words[place], name).map(usize::from);
-    let bounds = Bounds {
-        prime,
-        outputs: field(1, "outputs")?,
-        df: field(2, "df")?,
-        dg: field(3, "dg")?,
-        errors: field(4, "errors")?,
-    };
-    bounds.check().map(|()| bounds)
+fn groups<'a>(words: &[&'a str], form: &[&'a str]) -> Option<Vec<Vec<&'a str>>> {
+    let further = words.len().checked_sub(form.len())?;
+    let (mut rest, mut groups) = (words, Vec::new());
+    for pair in form.chunks_exact(2) {
+        let (label, placeholder) = (pair[0], pair[1]);
+        let count = match placeholder.ends_with("..") {
+            true => 1 + further,
+            false => 1,
+        };
+        let (group, behind) = rest.strip_prefix(&[label])?.split_at_checked(count)?;
+        groups.push(group.to_vec());
+        rest = behind;
+    }
+    rest.is_empty().then_some(groups)
 }
 
 fn parse_row(content: &str, job: &mut Job) -> Result<(), FormatError> {
@@ -200,12 +204,6 @@ fn excerpt(found: &str) -> String {
     let shown: String = found.chars().take(LONGEST).collect();
     let rest = if shown.len() < found.len() { ".." } else { "" };
     format!("`{}{rest}`", shown.escape_debug())
-}
-
-fn header_text(bounds: &Bounds) -> String {
-    let (prime, outputs) = (bounds.prime.value(), bounds.outputs);
-    let (df, dg, errors) = (bounds.df, bounds.dg, bounds.errors);
-    format!("prime {prime} outputs {outputs} df {df} dg {dg} errors {errors}")
 }
 
 impl Display for Job {

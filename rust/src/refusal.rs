@@ -1,6 +1,6 @@
 //! A refusal in words.
 
-use crate::job::{counted, numbers};
+use crate::format::{counted, numbers};
 use crate::objection::{of_denominator, of_length};
 use crate::{Bounds, Form, Header, Judgement, Report, Written};
 use std::error::Error;
@@ -10,7 +10,8 @@ use std::fmt::{Display, Formatter};
 /// `refused 5, row 2: a point or a value is 7 or more`.
 #[derive(Clone, Debug, PartialEq, Eq)]
 pub struct Refusal {
-    /// The number: 1 to 8 of a job; 1 to 5, 7, 9 or 10 of a trial; 1 to 6 of a judgement or a check.
+    /// The number: 1, 11 or 3 to 8 of a job; 1, 11, 3, 4, 9, 5, 10 or 7 of a trial; 1, 11 or 3 to 6 of a judgement or a
+    /// check.
     pub number: u32,
     /// The row that refusal 5 or 6 of a job speaks of, counted from 0; else 0.
     pub row: u32,
@@ -31,7 +32,7 @@ impl Refusal {
             row,
             reason: match Header::read(job) {
                 Some(header) => reason(refusal, row as usize, header, job),
-                None => too_short(job),
+                None => reason_without_header(refusal, job),
             },
             names_a_row: matches!(refusal, 5 | 6),
         })
@@ -64,7 +65,7 @@ impl Refusal {
             reason: match Header::read(header) {
                 Some(read) if refusal == 3 => byte_counts(read.bounds, header, coefficients),
                 Some(read) => trial_reason(refusal, read, coefficients, spoiled),
-                None => too_short(header),
+                None => reason_without_header(refusal, header),
             },
             names_a_row: false,
         })
@@ -113,14 +114,14 @@ fn reason(number: u32, row: usize, header: Header, job: &[u8]) -> String {
         }
         5 => format!("a point or a value is {} or more", bounds.prime.value()),
         6 => {
-            let rows = numbers(&job[Header::LENGTH..]);
+            let rows = numbers(&job[header.length()..]);
             let point = rows.get(row * (1 + bounds.outputs)).copied();
             let point = point.unwrap_or(0);
             format!("its point {point} stands in an earlier row")
         }
         7 => format!("the answer needs {} bytes", bounds.answer_length()),
         8 => {
-            let (df, dg) = (bounds.df, bounds.dg);
+            let (df, dg) = (bounds.df_text(), bounds.dg);
             let rows = counted(bounds.errors, "wrong row");
             format!("no reduced answer within df {df} and dg {dg} has at most {rows}")
         }
@@ -146,22 +147,43 @@ fn trial_reason(number: u32, header: Header, coefficients: &[u8], spoiled: u32) 
 /// What a job's header and a trial's are refused for alike.
 fn header_reason(number: u32, header: Header) -> String {
     match number {
-        2 => "the header's last bit is 1".to_string(),
         4 => {
             let (needed, found) = (header.bounds.needed_rows(), counted(header.rows, "row"));
             format!("df + dg + 2 E + 1 is {needed}, the job has {found}")
         }
+        11 => match header.broken_rule() {
+            Some(broken) => broken.to_string(),
+            None => "the added header breaks a rule".to_string(),
+        },
+        _ => known_reason(number),
+    }
+}
+
+/// What bytes are refused for that are too few for a header.
+fn reason_without_header(number: u32, bytes: &[u8]) -> String {
+    match number {
+        1 => {
+            let (needed, why) = (Header::length_at(bytes), Header::why_longer(bytes));
+            let found = bytes.len();
+            format!("expected {needed} bytes or more{why}, found {found}")
+        }
+        _ => known_reason(number),
+    }
+}
+
+/// What is known of a number alone. No job meets 2, as its header is longer then.
+fn known_reason(number: u32) -> String {
+    match number {
+        2 => "the header's last bit is 1".to_string(),
         _ => "a number that this version does not know".to_string(),
     }
 }
 
-fn too_short(header: &[u8]) -> String {
-    format!("expected 3 bytes or more, found {}", header.len())
-}
-
 fn byte_counts(bounds: Bounds, header: &[u8], coefficients: &[u8]) -> String {
-    if header.len() > Header::LENGTH {
-        return format!("expected a header of 3 bytes, found {}", header.len());
+    let (needed, found) = (bounds.header_length(), header.len());
+    if found > needed {
+        let why = Header::why_longer(header);
+        return format!("expected a header of {needed} bytes{why}, found {found}");
     }
     let (needed, found) = (bounds.coefficients_length(), coefficients.len());
     format!("the header asks for coefficients of {needed} bytes, they have {found}")

@@ -1,6 +1,6 @@
 //! A trial: fractions that are known, and how a job is to be written from them.
 
-use crate::job::{counted, number_bytes, within};
+use crate::format::{counted, number_bytes, output_name, within};
 use crate::{trimmed, Bounds, FormatError, Header, Job};
 
 /// What a trial job is written from. Whether the library refuses it is not tested here.
@@ -11,10 +11,11 @@ use crate::{trimmed, Bounds, FormatError, Header, Job};
 ///
 /// ```
 /// # #[cfg(feature = "library")] {
-/// use hanthuvelo::{Bounds, Prime, Trial};
+/// use hanthuvelo::{Bounds, NumeratorBounds, Prime, Trial};
 ///
 /// // 5 / (1 + u) and 1 / (1 + u) modulo 7 at the points 0 to 6, the last of which is a pole.
-/// let bounds = Bounds { prime: Prime::P7, outputs: 2, df: 0, dg: 1, errors: 2 };
+/// let df = NumeratorBounds::Same(0);
+/// let bounds = Bounds { prime: Prime::P7, outputs: 2, df, dg: 1, errors: 2 };
 /// let mut trial = Trial::new(bounds, 7, &[1, 1], &[vec![5], vec![1]]).expect("fractions within the bounds");
 /// assert_eq!(trial.write().expect("a job").rows()[1].values, [6, 4]);
 ///
@@ -61,7 +62,8 @@ impl Trial {
             let expected = counted(expected, "numerator");
             return Err(FormatError(format!("expected {expected}, found {found}")));
         }
-        let numerator = |(index, f): (usize, &Vec<u16>)| filled(&output_name(index), f, bounds.df);
+        let numerator =
+            |(output, f): (usize, &Vec<u16>)| filled(&output_name(output), f, bounds.df.of(output));
         let numerators: Result<_, _> = numerators.iter().enumerate().map(numerator).collect();
         Ok(Trial {
             bounds,
@@ -88,20 +90,14 @@ impl Trial {
         &self.denominator
     }
 
-    /// Those of each f, df + 1 of them.
+    /// Those of each f, its bound plus 1 of them.
     pub fn numerators(&self) -> &[Vec<u16>] {
         &self.numerators
     }
 
     /// The header's bytes, which the job begins with.
-    pub fn header(&self) -> [u8; Header::LENGTH] {
-        let (bounds, rows, spare) = (self.bounds, self.rows, false);
-        Header {
-            bounds,
-            rows,
-            spare,
-        }
-        .pack()
+    pub fn header(&self) -> Vec<u8> {
+        Header::new(self.bounds, self.rows).pack()
     }
 
     /// The bytes of the coefficients, as an answer lists them behind its word.
@@ -112,11 +108,6 @@ impl Trial {
         }
         bytes
     }
-}
-
-/// Outputs count from 0, and f1 is the first.
-pub(crate) fn output_name(output: usize) -> String {
-    format!("f{}", output + 1)
 }
 
 /// All coefficients up to the bound of a polynomial that meets it.

@@ -79,7 +79,7 @@ fn files_that_cannot_be_read_are_named() {
         ),
         (
             &script,
-            ", line 2: expected `prime P outputs N df D dg D errors E`, found `set -euo pipefail`",
+            ", line 2: expected `prime P outputs N df D.. dg D errors E`, found `set -euo pipefail`",
         ),
     ] {
         for verb in ["recover", "check", "pack", "show"] {

@@ -5,6 +5,7 @@ mod support;
 use hanthuvelo::hex;
 use outside_checks::jobs::{generate, Random};
 use std::fs;
+use support::longer::{has_longer_header, known_by};
 use support::{
     assert_done, assert_fails, command, example_names, feed, file, folder, run, run_on,
     run_redirected, stream_jobs, Run, ROOT,
@@ -170,15 +171,19 @@ fn jobs_are_packed_shown_and_unpacked() {
 /// Pack and show undo each other on any job that can be written.
 #[test]
 fn shown_jobs_pack_into_their_bytes() {
-    let jobs = stream_jobs(3, 200);
-    let mut tried = 0;
-    for job in jobs.iter().filter(|job| job[2] % 2 == 0) {
+    let jobs = stream_jobs(3, 240);
+    let mut tried = [0; 2];
+    for job in jobs.iter().filter(|job| known_by(job).is_some()) {
         let shown = run_on(&["show", "--binary", "-"], job);
         let packed = run_on(&["pack", "--readable", "-"], shown.text.as_bytes());
         assert_eq!(packed.out, *job, "{}", shown.text);
-        tried += 1;
+        tried[usize::from(has_longer_header(job))] += 1;
     }
-    assert!(tried > 150, "{tried}");
+    let [short, longer] = tried;
+    assert!(
+        short > 50 && longer > 50 && short + longer > 150,
+        "{tried:?}"
+    );
 }
 
 #[test]
@@ -279,14 +284,14 @@ fn a_broken_pipe_ends_the_command() {
         assert_eq!((run.said.as_str(), run.status), ("", 2));
     }
     let head = run_redirected("recover examples examples examples", "| head -n 1");
-    assert_eq!(head.text, "examples/full.job: recovered modulo 65521\n");
+    assert_eq!(head.text, "examples/filter.job: recovered modulo 65521\n");
 }
 
 /// A file's bytes that may be anything: a generated job, random bytes, or random words of a readable job.
 fn any_bytes(index: u64) -> Vec<u8> {
-    const WORDS: [&str; 15] = [
-        "prime", "7", "outputs", "1", "df", "0", "dg", "errors", "0:", "1: 5", "\n", "#", "65536",
-        "-1", "\u{fc}",
+    const WORDS: [&str; 16] = [
+        "long", "prime", "7", "outputs", "1", "df", "0", "dg", "errors", "0:", "1: 5", "\n", "#",
+        "65536", "-1", "\u{fc}",
     ];
     let mut random = Random::new(9, index);
     match index % 4 {

@@ -1,6 +1,12 @@
 //! The formats of jobs and answers against those of the outside checks, and what is said of bad ones.
 
-use hanthuvelo::{hex, readable, trimmed, Answer, Bounds, Header, Job, Prime, Row};
+#[path = "support/longer.rs"]
+mod longer;
+
+use hanthuvelo::{
+    hex, readable, trimmed, Answer, Bounds, Header, Job, NumeratorBounds, Prime, Row,
+};
+use longer::{df_of, has_longer_header, outputs_of, Added};
 use outside_checks::jobs::{enlargement, generate, Random};
 use outside_checks::layout;
 use outside_checks::second;
@@ -10,10 +16,14 @@ const HEADER: &str = "prime 7 outputs 1 df 0 dg 0 errors 1\n";
 
 /// The same job by this crate's types.
 fn rebuilt(job: &layout::Job) -> Job {
+    let bytes = job.pack();
     let bounds = Bounds {
         prime: Prime::from_value(job.prime()).expect("a known prime"),
-        outputs: job.outputs,
-        df: job.numerator_bound,
+        outputs: outputs_of(&bytes),
+        df: match has_longer_header(&bytes) {
+            true => NumeratorBounds::Each(Added::of(&bytes).bounds),
+            false => NumeratorBounds::Same(df_of(&bytes)),
+        },
         dg: job.denominator_bound,
         errors: job.error_bound,
     };
@@ -48,14 +58,14 @@ fn jobs_pack_and_unpack_as_outside() {
     }
 }
 
-/// What the second solver does not refuse by 1 to 5 is never taken for text.
+/// What the second solver does not refuse by 1, 11 or 3 to 5 is never taken for text.
 #[test]
 fn a_well_formed_job_is_not_readable() {
     let (mut tried, mut prime_codes) = (0, [0; 4]);
     for index in 0..20_000 {
         let job = generate(SEED, index).bytes;
         let refusal = second::recover(&job, &mut [0; 254]).refusal;
-        if !(1..=5).contains(&refusal) {
+        if !matches!(refusal, 1..=5 | 11) {
             assert!(!readable::is_readable(&job), "{}", hex::text(&job));
             prime_codes[usize::from(job[0] >> 6)] += 1;
             tried += 1;
@@ -119,7 +129,7 @@ fn assert_message(text: &str, message: &str) {
 
 #[test]
 fn a_bad_header_is_named_with_its_line() {
-    let expected = "expected `prime P outputs N df D dg D errors E`";
+    let expected = "expected `prime P outputs N df D.. dg D errors E`";
     assert_message("", &format!("line 1: {expected}"));
     assert_message("# nothing\n\n", &format!("line 3: {expected}"));
     assert_message("0: 5", &format!("line 1: {expected}, found `0: 5`"));
@@ -133,6 +143,7 @@ fn a_bad_header_is_named_with_its_line() {
         ("outputs 1", "outputs 5", "outputs from 1 to 4, found 5"),
         ("outputs 1", "outputs 0", "outputs from 1 to 4, found 0"),
         ("errors 1", "errors 16", "errors from 0 to 15, found 16"),
+        ("df 0", "df 32", "df from 0 to 31, found 32"),
         ("df 0", "df x", "df as a number from 0 to 65535, found `x`"),
         (
             "df 0",
@@ -194,7 +205,7 @@ fn bytes_that_are_no_job_are_named() {
     assert_eq!(message(&[1, 0x80]), "expected a header of 3 bytes, found 2");
     assert_eq!(
         message(&[1, 0x80, 3]),
-        "expected 0 as the header's last bit"
+        "expected a header of 7 bytes, as the spare bit is 1, found 3"
     );
     let short = "expected 15 bytes, as the header says, found 5";
     assert_eq!(message(&[1, 0x80, 2, 0, 0]), short);
@@ -223,8 +234,10 @@ fn bytes_that_are_no_answer_are_named() {
 
 #[test]
 fn every_header_is_read_as_the_paper_packs_it() {
-    for number in 0..1 << 24 {
-        let bytes = [(number >> 16) as u8, (number >> 8) as u8, number as u8];
+    for number in 0..1u32 << 24 {
+        // Any four bytes more, which say something where the last bit is 1 alone.
+        let added = number.wrapping_mul(0x9E37_79B9).to_be_bytes();
+        let bytes = [&number.to_be_bytes()[1..], &added].concat();
         let header = Header::read(&bytes).expect("a header");
         let mut rest = number as usize;
         let mut take = |width: u32| {
@@ -232,12 +245,19 @@ fn every_header_is_read_as_the_paper_packs_it() {
             rest >>= width;
             field
         };
-        assert_eq!(usize::from(header.spare), take(1));
-        let bounds = header.bounds;
+        let (spare, bounds) = (take(1), header.bounds);
+        assert_eq!(header.length(), [3, 7][spare]);
         assert_eq!(
-            [bounds.errors, bounds.dg, bounds.df],
+            [bounds.errors, bounds.dg, header.df],
             [take(4), take(5), take(5)]
         );
+        let added = Added::of(&bytes);
+        let (df, flags) = match spare {
+            0 => (NumeratorBounds::Same(header.df), 0),
+            _ => (NumeratorBounds::Each(added.bounds), added.flags),
+        };
+        assert_eq!((bounds.df, usize::from(header.flags)), (df, flags));
+        assert_eq!(Header::read(&bytes[..header.length() - 1]), None);
         assert_eq!([header.rows, bounds.outputs - 1], [take(5), take(2)]);
         assert_eq!(bounds.prime.value(), [7, 97, 257, 65521][take(2)]);
     }
@@ -285,7 +305,7 @@ mod with_library {
     use hanthuvelo::{check, recover, Job, Refusal};
     use outside_checks::paper::{EXAMPLES, REFUSALS};
 
-    /// The words of each refusal, by the paper's table; those of 1 to 6 are said by a check too.
+    /// The words of each refusal, by the paper's table; all but those of 7 and 8 are said by a check too.
     #[test]
     fn refusals_are_said_in_words() {
         assert_eq!(REFUSALS.len(), REFUSED.len());
@@ -297,7 +317,7 @@ mod with_library {
             assert_eq!((refusal.number, refusal.row), (report.refusal, report.row));
             assert_eq!(report, example.report);
             let form = Refusal::of_check(check(&job), &job);
-            assert_eq!(form, (refusal.number <= 6).then_some(refusal));
+            assert_eq!(form, (!matches!(refusal.number, 7 | 8)).then_some(refusal));
         }
     }
 

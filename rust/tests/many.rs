@@ -4,21 +4,26 @@ mod support;
 #[path = "support/terminal.rs"]
 mod terminal;
 
-use hanthuvelo::hex;
+use hanthuvelo::{hex, Report};
 use outside_checks::second;
 use std::fs::File;
 use std::io::{BufRead, BufReader, Read, Write};
 use std::process::Stdio;
 use std::thread;
 use std::time::Duration;
+use support::longer::{has_longer_header, header_length, known_by};
 use support::{command, file, folder, run, run_on, stream_jobs, Run};
 
 const SEED: u64 = 12;
 
-/// What the second solver makes of a job: its report, and the area's bytes.
-fn outside(job: &[u8]) -> (hanthuvelo::Report, Vec<u8>) {
+/// What the second solver makes of a job: its report, and the area's bytes. It is asked for the same job with the short header
+/// where the longer one has equal bounds, as both have the same answer.
+fn outside(job: &[u8]) -> (Report, Vec<u8>) {
+    let Some(job) = known_by(job) else {
+        return (Report::refused(11, 0), Vec::new());
+    };
     let mut area = vec![0; 254];
-    let report = second::recover(job, &mut area);
+    let report = second::recover(&job, &mut area);
     area.truncate(report.written as usize);
     (report, area)
 }
@@ -45,7 +50,8 @@ fn joined(numbers: &[usize]) -> String {
 /// refused job without the reason.
 fn expected_object(job: &[u8], number: usize, byte: usize) -> String {
     let place = format!("{{\"file\":\"standard input\",\"job\":{number},\"byte\":{byte}");
-    let text = second::printed(job);
+    let known_by = known_by(job);
+    let text = known_by.map_or("refused 11 0\n".to_string(), |job| second::printed(&job));
     if let Some(refused) = numbers_of(&text, "refused") {
         let (refusal, row) = (refused[0], refused[1]);
         return format!("{place},\"status\":\"refused\",\"refusal\":{refusal},\"row\":{row},");
@@ -62,7 +68,7 @@ fn expected_object(job: &[u8], number: usize, byte: usize) -> String {
         })
         .collect();
     let point = |row: usize| {
-        let start = 3 + row * 2 * (1 + outputs);
+        let start = header_length(job) + row * 2 * (1 + outputs);
         usize::from(job[start]) * 256 + usize::from(job[start + 1])
     };
     let wrong: Vec<String> = numbers_of(&text, "wrong")
@@ -81,7 +87,7 @@ fn results_come_in_order_on_any_number_of_threads() {
     let stream = jobs.concat();
     let mut byte = 0;
     let mut objects = Vec::new();
-    let (mut refused, mut refusals) = (0, [0; 9]);
+    let (mut refused, mut refusals) = (0, [0; 12]);
     for (number, job) in jobs.iter().enumerate() {
         objects.push(expected_object(job, number, byte));
         byte += job.len();
@@ -91,6 +97,9 @@ fn results_come_in_order_on_any_number_of_threads() {
     }
     let met = refusals.iter().filter(|&&count| count >= 20).count();
     assert!(met >= 6 && refusals[0] > 3000, "{refusals:?}");
+    assert!(refusals[11] >= 200, "{refusals:?}");
+    let longer = jobs.iter().filter(|job| has_longer_header(job)).count();
+    assert!((2000..5000).contains(&longer), "{longer}");
     for threads in ["1", "2", "3", "7"] {
         let run = run_on(
             &["recover", "--stream", "--json", "--threads", threads, "-"],
@@ -139,18 +148,22 @@ fn bytes_are_those_of_the_second_solver() {
     assert_eq!(text.text, lines);
 }
 
-/// Four short jobs, to be cut at every byte.
-fn short_jobs() -> Vec<Vec<u8>> {
+/// Four jobs of few bytes, to be cut at every byte: two with each header, the longer one first and third.
+fn small_jobs() -> Vec<Vec<u8>> {
     let jobs = stream_jobs(SEED + 2, 400).into_iter();
-    let short: Vec<Vec<u8>> = jobs.filter(|job| job.len() < 60).take(4).collect();
-    assert_eq!(short.len(), 4);
-    short
+    let (longer, short): (Vec<_>, Vec<_>) = jobs
+        .filter(|job| job.len() < 60)
+        .partition(|job| has_longer_header(job));
+    let pairs = longer.into_iter().zip(short).take(2);
+    let small: Vec<Vec<u8>> = pairs.flat_map(|(one, other)| [one, other]).collect();
+    assert_eq!(small.len(), 4);
+    small
 }
 
 /// A stream that is cut anywhere: the whole jobs are answered, and the broken one is named.
 #[test]
 fn a_broken_stream_names_the_job_that_breaks_off() {
-    let jobs = short_jobs();
+    let jobs = small_jobs();
     let stream = jobs.concat();
     for cut in 1..stream.len() {
         let (mut whole, mut start) = (0, 0);
@@ -169,6 +182,7 @@ fn a_broken_stream_names_the_job_that_breaks_off() {
                 continue;
             }
             1 | 2 => "at least 3".to_string(),
+            3..7 if has_longer_header(&jobs[whole]) => "at least 7".to_string(),
             _ => jobs[whole].len().to_string(),
         };
         let message = format!(
@@ -181,7 +195,7 @@ fn a_broken_stream_names_the_job_that_breaks_off() {
 
 #[test]
 fn a_broken_stream_has_an_object() {
-    let jobs = short_jobs();
+    let jobs = small_jobs();
     let stream = jobs.concat();
     let cut = &stream[..stream.len() - 1];
     let run = run_on(&["recover", "--stream", "--json", "-"], cut);

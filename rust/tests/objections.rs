@@ -47,24 +47,7 @@ fn kind(found: &Option<Objection>) -> &'static str {
     }
 }
 
-/// The same job by the types of the outside checks.
-fn outside(job: &Job) -> layout::Job {
-    let bounds = job.bounds();
-    let row = |row: &hanthuvelo::Row| layout::Row {
-        point: row.point.into(),
-        values: row.values.iter().map(|&value| value.into()).collect(),
-    };
-    layout::Job {
-        prime_code: bounds.prime as usize,
-        outputs: bounds.outputs,
-        numerator_bound: bounds.df,
-        denominator_bound: bounds.dg,
-        error_bound: bounds.errors,
-        rows: job.rows().iter().map(row).collect(),
-    }
-}
-
-/// A job that is not refused by 1 to 6, with its answer's bytes, if it has one, by what is written outside.
+/// A job that is not refused by its form, with its answer's bytes, if it has one, by what is written outside.
 struct Case {
     job: Job,
     outside: layout::Job,
@@ -74,7 +57,7 @@ struct Case {
 impl Case {
     fn new(bytes: &[u8], answer: Option<Vec<u8>>) -> Case {
         let job = Job::unpack(bytes).expect("a job");
-        let outside = outside(&job);
+        let outside = layout::Job::unpack(bytes);
         Case {
             job,
             outside,
@@ -124,23 +107,22 @@ impl Case {
         }
     }
 
-    /// The first coefficient of p or more, by its place among the bytes.
+    /// The first coefficient of p or more, in the order of the bytes.
     fn large_coefficient(&self, offered: &[u8]) -> Option<Objection> {
-        let number = |pair: &[u8]| u16::from_be_bytes([pair[0], pair[1]]);
-        let numbers: Vec<u16> = offered[4..].chunks(2).map(number).collect();
-        let (job, prime) = (&self.outside, self.outside.prime());
-        let place = numbers.iter().position(|&each| u32::from(each) >= prime)?;
-        let (polynomial, power) = match place.checked_sub(job.denominator_bound + 1) {
-            None => ("g".to_string(), place),
-            Some(behind) => {
-                let width = job.numerator_bound + 1;
-                (format!("f{}", behind / width + 1), behind % width)
-            }
-        };
+        let (answer, prime) = (Answer::unpack(offered, &self.outside), self.outside.prime());
+        let blocks = [&answer.denominator].into_iter().chain(&answer.numerators);
+        let mut found = blocks.enumerate().filter_map(|(place, block)| {
+            let power = block.iter().position(|&each| each >= prime)?;
+            Some((place, power, block[power]))
+        });
+        let (place, power, coefficient) = found.next()?;
         Some(Objection::LargeCoefficient {
-            polynomial,
+            polynomial: match place {
+                0 => "g".to_string(),
+                output => format!("f{output}"),
+            },
             power,
-            coefficient: numbers[place],
+            coefficient: coefficient as u16,
             prime,
         })
     }

@@ -2,10 +2,11 @@
 
 mod support;
 
-use hanthuvelo::{hex, readable};
+use hanthuvelo::{hex, readable, LONGEST_JOB};
 use outside_checks::jobs::trial::generate;
 use outside_checks::second::trial_job;
 use std::fs;
+use support::longer::{df_of, has_longer_header, header_length, outputs_of, Added};
 use support::{assert_bad_use, assert_fails, file, folder, run, run_on, run_redirected, ROOT};
 
 const EXAMPLE: &str = "examples/pole.trial";
@@ -145,7 +146,7 @@ fn files_that_cannot_be_read_are_named() {
         assert_fails(&run(&["trial", EXAMPLE, name]), &format!("{name}{message}"));
     }
     let empty = run_on(&["trial", "-"], &[]);
-    let message = "standard input, line 1: expected `prime P outputs N df D dg D errors E`\n";
+    let message = "standard input, line 1: expected `prime P outputs N df D.. dg D errors E`\n";
     assert_eq!((empty.said.as_str(), empty.status), (message, 2));
     let full = run_redirected("trial examples/pole.trial", "> /dev/full");
     let message = "standard output: No space left on device (os error 28)\n";
@@ -156,7 +157,7 @@ fn files_that_cannot_be_read_are_named() {
 #[test]
 fn generated_trials_are_written_or_refused() {
     let (mut written, mut refused) = (0, 0);
-    for index in 0..400 {
+    for index in 0..600 {
         let call = generate(33, index);
         let Some(text) = trial_text(&call.header, &call.coefficients) else {
             continue;
@@ -177,7 +178,7 @@ fn generated_trials_are_written_or_refused() {
             &call.coefficients,
             call.start,
             call.spoiled,
-            313,
+            LONGEST_JOB,
         ) {
             Ok(job) => {
                 assert_eq!((run.out, run.status), (job.bytes, 0), "{}", call.describe());
@@ -194,17 +195,33 @@ fn generated_trials_are_written_or_refused() {
     assert!(written > 250 && refused > 50, "{written}, {refused}");
 }
 
+/// The bound of each output, and the words that stand for them behind `df`; none where the bytes are not a whole header, or
+/// one that breaks a rule.
+fn bounds_and_words(header: &[u8]) -> Option<(Vec<usize>, String)> {
+    let is_whole = header.len() >= 3 && header.len() == header_length(header);
+    if !is_whole {
+        return None;
+    }
+    let (outputs, df) = (outputs_of(header), df_of(header));
+    if !has_longer_header(header) {
+        return Some((vec![df; outputs], df.to_string()));
+    }
+    let added = Some(Added::of(header)).filter(|added| !added.breaks_a_rule(header))?;
+    let bounds = added.bounds[..outputs].to_vec();
+    let words: Vec<String> = bounds.iter().map(usize::to_string).collect();
+    let long = if outputs == 1 { " long" } else { "" };
+    Some((bounds, words.join(" ") + long))
+}
+
 /// The readable trial of these bytes, every term written out; none where they do not fit each other.
 fn trial_text(header: &[u8], coefficients: &[u8]) -> Option<String> {
-    let &[first, second, third] = header else {
-        return None;
-    };
-    let bits = u32::from_be_bytes([0, first, second, third]);
+    let (bounds, df) = bounds_and_words(header)?;
+    let bits = u32::from_be_bytes([0, header[0], header[1], header[2]]);
     let field = |above: u32, width: u32| bits >> above & ((1 << width) - 1);
     let prime = [7, 97, 257, 65521][field(22, 2) as usize];
-    let (outputs, rows, df, dg) = (field(20, 2) + 1, field(15, 5), field(10, 5), field(5, 5));
-    let widths = std::iter::once(dg + 1).chain((0..outputs).map(|_| df + 1));
-    if coefficients.len() as u32 != 2 * widths.clone().sum::<u32>() || third % 2 == 1 {
+    let (outputs, rows, dg) = (bounds.len(), field(15, 5), field(5, 5) as usize);
+    let widths = std::iter::once(dg + 1).chain(bounds.iter().map(|bound| bound + 1));
+    if coefficients.len() != 2 * widths.clone().sum::<usize>() {
         return None;
     }
     let mut text = format!(

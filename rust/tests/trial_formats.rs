@@ -1,14 +1,21 @@
 //! The formats of trials against those of the outside checks, and what is said of bad ones.
 
-use hanthuvelo::{hex, readable, Bounds, Header, Prime, Trial};
-use outside_checks::jobs::trial::{generate, TrialCall};
+#[path = "support/longer.rs"]
+mod longer;
+#[path = "support/trials.rs"]
+mod trials;
+
+use hanthuvelo::{hex, readable, Bounds, NumeratorBounds, Prime, Trial};
+use longer::{has_longer_header, lengthened};
+use outside_checks::jobs::trial::generate;
 use outside_checks::jobs::Random;
+use trials::{trial_of, within_own_bounds};
 
 const SEED: u64 = 32;
 const BOUNDS: Bounds = Bounds {
     prime: Prime::P7,
     outputs: 2,
-    df: 1,
+    df: NumeratorBounds::Same(1),
     dg: 2,
     errors: 1,
 };
@@ -21,28 +28,6 @@ g = 3 + u^2
 f1 = 2 u
 f2 = 0
 ";
-
-/// The trial whose bytes a call has; none where they are not as many as the header asks for.
-fn trial_of(call: &TrialCall) -> Option<Trial> {
-    let header = Header::read(&call.header)?;
-    let bounds = header.bounds;
-    let is_whole = call.header.len() == 3
-        && !header.spare
-        && call.coefficients.len() == bounds.coefficients_length();
-    if !is_whole {
-        return None;
-    }
-    let number = |pair: &[u8]| u16::from_be_bytes([pair[0], pair[1]]);
-    let numbers: Vec<u16> = call.coefficients.chunks(2).map(number).collect();
-    let (denominator, numerators) = numbers.split_at(bounds.dg + 1);
-    let numerators: Vec<Vec<u16>> = numerators
-        .chunks(bounds.df + 1)
-        .map(<[u16]>::to_vec)
-        .collect();
-    let mut trial = Trial::new(bounds, header.rows, denominator, &numerators).expect("a trial");
-    (trial.start, trial.spoiled) = (call.start, call.spoiled);
-    Some(trial)
-}
 
 #[test]
 fn trials_have_the_bytes_of_outside() {
@@ -60,6 +45,33 @@ fn trials_have_the_bytes_of_outside() {
         assert!(readable::is_readable(text.as_bytes()), "{text}");
     }
     assert!(tried > 2000, "{tried}");
+}
+
+/// The same fractions within a bound for each output: the header is the longer one, and of each f there are as many
+/// coefficients as its bound asks for.
+#[test]
+fn trials_have_a_bound_for_each_output() {
+    let (mut tried, mut shorter) = (0, 0);
+    for index in 0..8000 {
+        let call = generate(SEED + 1, index);
+        let known = trial_of(&call).filter(|_| !has_longer_header(&call.header));
+        let Some(short) = known else {
+            continue;
+        };
+        let (longer, added) = within_own_bounds(&short, &mut Random::new(SEED, index));
+        assert_eq!(longer.header(), lengthened(&call.header, &added));
+        let cut = short.numerators().iter().zip(added.bounds);
+        let cut: Vec<u16> = cut.flat_map(|(f, bound)| f[..=bound].to_vec()).collect();
+        let listed = [short.denominator(), &cut].concat();
+        let expected: Vec<u8> = listed.into_iter().flat_map(u16::to_be_bytes).collect();
+        assert_eq!(longer.coefficients(), expected);
+        let text = longer.to_string();
+        assert!(readable::is_readable(text.as_bytes()), "{text}");
+        assert_eq!(text.parse(), Ok(longer), "{text}");
+        tried += 1;
+        shorter += usize::from(expected.len() < call.coefficients.len());
+    }
+    assert!(tried > 500 && shorter > 200, "{tried}, {shorter}");
 }
 
 #[test]
@@ -160,7 +172,7 @@ const BAD_LINES: [(&str, &str, &str); 15] = [
 
 #[test]
 fn a_bad_line_is_named() {
-    let header = "expected `prime P outputs N df D dg D errors E`";
+    let header = "expected `prime P outputs N df D.. dg D errors E`";
     assert_message("", &format!("line 1: {header}"));
     assert_message("g = 1", &format!("line 1: {header}, found `g = 1`"));
     for (old, new, message) in BAD_LINES {
@@ -232,110 +244,9 @@ fn any_text_is_read_or_named() {
 
 #[cfg(feature = "library")]
 mod with_library {
-    use super::{generate, hex, trial_of, SEED};
-    use hanthuvelo::{trial, Job, Refusal, LONGEST_JOB};
+    use super::{generate, trial_of, SEED};
+    use hanthuvelo::{Job, LONGEST_JOB};
     use outside_checks::second::trial_job;
-
-    const HEADER: &str = "13 80 24";
-    const COEFFICIENTS: &str = "0001 0001 0005 0001";
-
-    /// Header, coefficients, number of spoiled rows and length of the area, with the refusal.
-    const REFUSED: [(&str, &str, u32, usize, &str); 14] = [
-        ("", "", 0, 0, "1: expected 3 bytes or more, found 0"),
-        (
-            "13 80",
-            COEFFICIENTS,
-            2,
-            45,
-            "1: expected 3 bytes or more, found 2",
-        ),
-        (
-            "13 80 25",
-            COEFFICIENTS,
-            2,
-            45,
-            "2: the header's last bit is 1",
-        ),
-        (
-            "13 80 24 00",
-            COEFFICIENTS,
-            2,
-            45,
-            "3: expected a header of 3 bytes, found 4",
-        ),
-        (
-            HEADER,
-            "0001 0001",
-            2,
-            45,
-            "3: the header asks for coefficients of 8 bytes, they have 4",
-        ),
-        (
-            "12 80 24",
-            COEFFICIENTS,
-            2,
-            45,
-            "4: df + dg + 2 E + 1 is 6, the job has 5 rows",
-        ),
-        (
-            "14 00 24",
-            COEFFICIENTS,
-            2,
-            99,
-            "9: there are 7 points, the job has 8 rows",
-        ),
-        (
-            HEADER,
-            COEFFICIENTS,
-            8,
-            45,
-            "9: 8 rows are to be spoiled, the job has 7 rows",
-        ),
-        (
-            HEADER,
-            "0001 0001 0005 0007",
-            2,
-            45,
-            "5: a coefficient is 7 or more",
-        ),
-        (HEADER, "0000 0000 0005 0001", 2, 45, "10: g is zero"),
-        (
-            HEADER,
-            "0001 0003 0005 0001",
-            2,
-            45,
-            "10: the leading coefficient of g is 3, not 1",
-        ),
-        (
-            HEADER,
-            "0003 0000 0005 0001",
-            2,
-            45,
-            "10: the leading coefficient of g is 3, not 1",
-        ),
-        (
-            HEADER,
-            "0001 0001 0000 0000",
-            2,
-            45,
-            "10: a polynomial of positive degree divides g and every f",
-        ),
-        (HEADER, COEFFICIENTS, 2, 44, "7: the job needs 45 bytes"),
-    ];
-
-    #[test]
-    fn refusals_are_said_in_words() {
-        for (header, coefficients, spoiled, length, words) in REFUSED {
-            let header = hex::bytes(header).expect("bytes");
-            let coefficients = hex::bytes(coefficients).expect("bytes");
-            let written = trial(&header, &coefficients, 14, spoiled, &mut vec![0; length]);
-            let refusal = Refusal::of_trial(written, &header, &coefficients, spoiled);
-            let refusal = refusal.expect("a refusal");
-            assert_eq!(refusal.to_string(), format!("refused {words}"));
-            assert_eq!(refusal.number, written.refusal);
-            assert!(refusal.row == 0 && !refusal.names_a_row());
-        }
-    }
 
     /// The job or the refusal of the second writer.
     #[test]

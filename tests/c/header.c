@@ -55,6 +55,14 @@ static int check_recover(void)
     return 0;
 }
 
+/*
+ * The longer header modulo 7: three outputs with the bounds 2, 0 and 1, dg 1 and E 0. g = 1 + u, f1 = 1 + u^2, f2 = 3
+ * and f3 = 2u at the points 0 to 3; it is the trial job of these polynomials too.
+ */
+static const uint8_t LONGER_JOB[] = {0x22, 0x08, 0x21, 0x10, 0x02, 0, 0, 0, 0, 0, 1, 0, 3, 0, 0, 0, 1, 0, 1, 0,
+                                     5,    0,    1,    0,    2,    0, 4, 0, 1, 0, 6, 0, 3, 0, 6, 0, 6, 0, 5};
+static const uint8_t LONGER_ANSWER[] = {0, 0, 0, 0, 0, 1, 0, 1, 0, 1, 0, 0, 0, 1, 0, 3, 0, 0, 0, 2};
+
 static int checked(struct hanthuvelo_refusal r, uint32_t refusal, uint32_t row)
 {
     return r.refusal == refusal && r.row == row;
@@ -137,7 +145,7 @@ static int check_trial(void)
 
     EXPECT(refused(hanthuvelo_trial(NULL, 0, NULL, 0, 0, 0, NULL, 0), HANTHUVELO_TOO_SHORT));
     EXPECT(refused(trial(2, 8, 2, area, sizeof area), HANTHUVELO_TOO_SHORT));
-    EXPECT(refused(changed(2, 0x25, 1, 1, area), HANTHUVELO_SPARE_BIT));
+    EXPECT(refused(changed(2, 0x25, 1, 1, area), HANTHUVELO_TOO_SHORT));
     EXPECT(refused(trial(4, 8, 2, area, sizeof area), HANTHUVELO_BYTE_COUNT));
     EXPECT(refused(trial(3, 9, 2, area, sizeof area), HANTHUVELO_BYTE_COUNT));
     EXPECT(refused(changed(0, 0x12, 1, 1, area), HANTHUVELO_TOO_FEW_ROWS));
@@ -235,7 +243,10 @@ static int check_refusals(void)
     EXPECT(judged(hanthuvelo_judge(NULL, 0, NULL, 0), HANTHUVELO_TOO_SHORT, 0, 0));
     EXPECT(judged(hanthuvelo_judge(NULL, 0, H1_ANSWER, sizeof H1_ANSWER), HANTHUVELO_TOO_SHORT, 0, 0));
     EXPECT(job_refused(0, 0x01, 2, HANTHUVELO_TOO_SHORT, 0));
-    EXPECT(job_refused(2, 0x03, sizeof H1_JOB, HANTHUVELO_SPARE_BIT, 0));
+    /* The first row is read as the added header, and sets flags. */
+    EXPECT(job_refused(2, 0x03, 3, HANTHUVELO_TOO_SHORT, 0));
+    EXPECT(job_refused(2, 0x03, 6, HANTHUVELO_TOO_SHORT, 0));
+    EXPECT(job_refused(2, 0x03, sizeof H1_JOB, HANTHUVELO_ADDED_HEADER, 0));
     EXPECT(job_refused(0, 0x01, sizeof H1_JOB - 1, HANTHUVELO_BYTE_COUNT, 0));
     EXPECT(job_refused(1, 0x00, 11, HANTHUVELO_TOO_FEW_ROWS, 0));
     EXPECT(job_refused(14, 7, sizeof H1_JOB, HANTHUVELO_OUT_OF_RANGE, 2));
@@ -280,7 +291,59 @@ static int check_judge(void)
     return 0;
 }
 
+/* Whether the longer job with one byte changed is refused so, by every function that takes a job. */
+static int longer_refused(size_t place, uint8_t byte, size_t job_length, uint32_t refusal)
+{
+    uint8_t job[sizeof LONGER_JOB], area[sizeof LONGER_ANSWER];
+    memcpy(job, LONGER_JOB, sizeof job);
+    job[place] = byte;
+    memset(area, FILLING, sizeof area);
+    return same(hanthuvelo_recover(job, job_length, area, sizeof area), refusal, 0, 0, 0) && kept(area, 0, sizeof area)
+           && checked(hanthuvelo_check(job, job_length), refusal, 0)
+           && judged(hanthuvelo_judge(job, job_length, LONGER_ANSWER, sizeof LONGER_ANSWER), refusal, 0, 0);
+}
+
+static int check_longer(void)
+{
+    EXPECT(HANTHUVELO_JOB_MAX == 317 && HANTHUVELO_ANSWER_MAX == 254);
+    EXPECT(HANTHUVELO_SPARE_BIT == 2 && HANTHUVELO_ADDED_HEADER == 11);
+
+    for (size_t length = 0; length < sizeof LONGER_JOB; length++) {
+        EXPECT(longer_refused(0, 0x22, length, length < 7 ? HANTHUVELO_TOO_SHORT : HANTHUVELO_BYTE_COUNT));
+    }
+    EXPECT(longer_refused(1, 0x0C, sizeof LONGER_JOB, HANTHUVELO_ADDED_HEADER)); /* df is 3 */
+    EXPECT(longer_refused(4, 0x06, sizeof LONGER_JOB, HANTHUVELO_ADDED_HEADER)); /* f3 has the bound 3 */
+    EXPECT(longer_refused(5, 0x10, sizeof LONGER_JOB, HANTHUVELO_ADDED_HEADER)); /* f4 has the bound 1 */
+    EXPECT(longer_refused(6, 0x01, sizeof LONGER_JOB, HANTHUVELO_ADDED_HEADER)); /* the last flag */
+    EXPECT(longer_refused(2, 0x23, sizeof LONGER_JOB, HANTHUVELO_TOO_FEW_ROWS)); /* E is 1 */
+
+    uint8_t area[HANTHUVELO_JOB_MAX];
+    memset(area, FILLING, sizeof area);
+    size_t needed = sizeof LONGER_ANSWER;
+    EXPECT(same(hanthuvelo_recover(LONGER_JOB, sizeof LONGER_JOB, area, needed - 1), HANTHUVELO_AREA_TOO_SHORT, 0, 0,
+                0));
+    EXPECT(same(hanthuvelo_recover(LONGER_JOB, sizeof LONGER_JOB, area, sizeof area), HANTHUVELO_RECOVERED, 0, 20, 0));
+    EXPECT(memcmp(area, LONGER_ANSWER, needed) == 0 && kept(area, needed, sizeof area));
+    EXPECT(judged(hanthuvelo_judge(LONGER_JOB, sizeof LONGER_JOB, LONGER_ANSWER, needed), HANTHUVELO_JUDGED, 0, 1));
+    EXPECT(judged(hanthuvelo_judge(LONGER_JOB, sizeof LONGER_JOB, area, needed + 2), HANTHUVELO_BYTE_COUNT, 0, 0));
+
+    const uint8_t *coefficients = LONGER_ANSWER + 4;
+    memset(area, FILLING, sizeof area);
+    for (size_t length = 0; length < 12; length++) {
+        struct hanthuvelo_written w
+            = hanthuvelo_trial(LONGER_JOB, length, coefficients, needed - 4, 0, 0, area, sizeof area);
+        if (length == 7) {
+            EXPECT(w.refusal == HANTHUVELO_WRITTEN && w.row == 0 && w.written == sizeof LONGER_JOB);
+            EXPECT(memcmp(area, LONGER_JOB, sizeof LONGER_JOB) == 0 && kept(area, sizeof LONGER_JOB, sizeof area));
+        } else {
+            EXPECT(refused(w, length < 7 ? HANTHUVELO_TOO_SHORT : HANTHUVELO_BYTE_COUNT));
+        }
+    }
+    return 0;
+}
+
 int main(void)
 {
-    return check_recover() || check_form() || check_trial() || check_reciprocal() || check_refusals() || check_judge();
+    return check_recover() || check_form() || check_trial() || check_reciprocal() || check_refusals() || check_judge()
+           || check_longer();
 }

@@ -1,7 +1,7 @@
 //! Paper 01's definition itself: every answer of a small job, by trying all polynomials; and what an
 //! offered answer of any job lacks of it.
 
-use crate::layout::{is_right, trimmed, wrong_rows, Answer, Job, Row};
+use crate::layout::{is_right, trimmed, wrong_rows, Answer, HeaderForm, Job, Row};
 use crate::second::{reduced, Field};
 
 /// Every reduced answer within the job's bounds with at most E wrong rows.
@@ -9,14 +9,15 @@ use crate::second::{reduced, Field};
 /// All g with leading coefficient 1 and all f are tried, so the job must be tiny.
 pub fn answers(job: &Job) -> Vec<Answer> {
     let mut found = Vec::new();
-    let width = job.numerator_bound + 1;
     for denominator in monic_polynomials(job.denominator_bound, job.prime()) {
-        for_each_list(job.outputs * width, job.prime(), &mut |coefficients| {
+        for_each_list(numerator_length(job), job.prime(), &mut |coefficients| {
             if !has_few_wrong_rows(job, &denominator, coefficients) {
                 return;
             }
-            let numerators: Vec<Vec<u32>> =
-                coefficients.chunks(width).map(<[u32]>::to_vec).collect();
+            let numerators: Vec<Vec<u32>> = job
+                .numerators_in(coefficients)
+                .map(<[u32]>::to_vec)
+                .collect();
             if is_reduced(&denominator, &numerators, job.prime()) {
                 let word = wrong_rows(job, &denominator, &numerators);
                 found.push(Answer {
@@ -28,6 +29,11 @@ pub fn answers(job: &Job) -> Vec<Answer> {
         });
     }
     found
+}
+
+/// How many coefficients f1, f2, .. have together, each up to its own bound.
+fn numerator_length(job: &Job) -> usize {
+    job.numerator_bounds.iter().map(|bound| bound + 1).sum()
 }
 
 /// What an offered answer can lack of being the job's.
@@ -96,7 +102,7 @@ fn has_common_divisor(g: &[u32], numerators: &[Vec<u32>], leading: u32, prime: u
 /// At most E rows are wrong, the numerators standing one after the other in `coefficients`.
 fn has_few_wrong_rows(job: &Job, denominator: &[u32], coefficients: &[u32]) -> bool {
     let wrong = job.rows.iter().filter(|row| {
-        let numerators = coefficients.chunks(job.numerator_bound + 1);
+        let numerators = job.numerators_in(coefficients);
         !is_right(denominator, numerators, row, job.prime())
     });
     wrong.take(job.error_bound + 1).count() <= job.error_bound
@@ -106,7 +112,7 @@ fn has_few_wrong_rows(job: &Job, denominator: &[u32], coefficients: &[u32]) -> b
 pub fn candidates(job: &Job) -> u64 {
     let count = |length: usize| u64::from(job.prime()).saturating_pow(length as u32);
     let denominators = (0..=job.denominator_bound).map(count);
-    let numerators = count(job.outputs * (job.numerator_bound + 1));
+    let numerators = count(numerator_length(job));
     denominators
         .fold(0, u64::saturating_add)
         .saturating_mul(numerators)
@@ -167,25 +173,27 @@ pub fn for_each_list(length: usize, prime: u32, visit: &mut dyn FnMut(&[u32])) {
     }
 }
 
-/// Calls `visit` with every job modulo 7 that has these bounds, no row more than they need, and its rows at the points 0 to
-/// L − 1.
+/// Calls `visit` with every job modulo 7 that has these bounds of each f, of g and of the wrong rows, no row more than they
+/// need, and its rows at the points 0 to L − 1. Its header is the longer one.
 pub fn for_each_smallest_job(
-    (outputs, df, dg, errors): (usize, usize, usize, usize),
+    (numerator_bounds, dg, errors): (&[usize], usize, usize),
     visit: &mut dyn FnMut(&Job),
 ) {
-    let row_count = df + dg + 2 * errors + 1;
-    for_each_list(row_count * outputs, 7, &mut |values| {
+    let outputs = numerator_bounds.len();
+    let mut job = Job {
+        header: HeaderForm::Longer,
+        prime_code: 0,
+        numerator_bounds: numerator_bounds.to_vec(),
+        denominator_bound: dg,
+        error_bound: errors,
+        rows: Vec::new(),
+    };
+    for_each_list(job.needed_rows() * outputs, 7, &mut |values| {
         let row = |(point, values): (u32, &[u32])| Row {
             point,
             values: values.to_vec(),
         };
-        visit(&Job {
-            prime_code: 0,
-            outputs,
-            numerator_bound: df,
-            denominator_bound: dg,
-            error_bound: errors,
-            rows: (0..).zip(values.chunks(outputs)).map(row).collect(),
-        });
+        job.rows = (0..).zip(values.chunks(outputs)).map(row).collect();
+        visit(&job);
     });
 }

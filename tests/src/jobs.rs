@@ -1,11 +1,15 @@
 //! Generated jobs: seeded and repeatable, each labelled with what it was made to be.
 
+mod added;
 pub mod enlargement;
+mod faults;
 mod faulty;
 pub mod form;
 mod fraction;
+mod header_tally;
 pub mod judged;
 pub mod measured;
+mod own_bound;
 mod planted;
 mod random;
 pub mod reciprocal;
@@ -13,7 +17,9 @@ mod tally;
 pub mod trial;
 
 use crate::layout::Answer;
+use added::Broken;
 use hanthuvelo::{hex, Form, Report};
+use own_bound::beyond_own_bound;
 use planted::{planted, Planted, Shape, WrongRows};
 pub use random::Random;
 pub use tally::{Kind, Tally};
@@ -38,11 +44,11 @@ pub enum Expected {
 }
 
 impl Expected {
-    /// What is known of the job's form: which of the refusals 1 to 6 applies, if one does.
+    /// What is known of the job's form: which of the refusals 1, 11 and 3 to 6 applies, if one does.
     fn form(&self) -> Option<Form> {
         match *self {
             Expected::Refused {
-                number: number @ 1..=6,
+                number: number @ (1..=6 | 11),
                 row,
             } => Some(Form::refused(number, row)),
             Expected::Open => None,
@@ -59,10 +65,15 @@ pub struct GeneratedJob {
     pub bytes: Vec<u8>,
     pub area: Vec<u8>,
     pub expected: Expected,
+    /// How the added header is broken, if it was made so.
+    broken: Option<Broken>,
 }
 
-/// Where jobs come from, with the share of each in fifty jobs.
-const PLAN: [(Source, usize); 24] = [
+/// What else is wrong where an added header is broken: nothing, or the cause of a refusal.
+const OTHER_FAULTS: [u32; 7] = [0, 1, 3, 4, 5, 6, 7];
+
+/// Where jobs come from, with the share of each.
+const PLAN: [(Source, usize); 27] = [
     (Source::Planted(Shape::Any, WrongRows::Exact), 11),
     (Source::Planted(Shape::Poles, WrongRows::Exact), 6),
     (Source::Planted(Shape::Any, WrongRows::Fewer), 4),
@@ -79,12 +90,15 @@ const PLAN: [(Source, usize); 24] = [
     (Source::Planted(Shape::Any, WrongRows::OneTooMany), 4),
     (Source::Planted(Shape::Poles, WrongRows::OneTooMany), 1),
     (Source::Planted(Shape::WholeField, WrongRows::OneTooMany), 1),
-    (Source::Faulty(1, 2), 1),
-    (Source::Faulty(3, 3), 1),
-    (Source::Faulty(4, 4), 1),
-    (Source::Faulty(5, 5), 1),
-    (Source::Faulty(6, 6), 1),
-    (Source::Faulty(7, 7), 1),
+    (Source::BeyondOwnBound, 2),
+    (Source::Faulty(1), 1),
+    (Source::SpareBit, 1),
+    (Source::Broken, 3),
+    (Source::Faulty(3), 1),
+    (Source::Faulty(4), 1),
+    (Source::Faulty(5), 1),
+    (Source::Faulty(6), 1),
+    (Source::Faulty(7), 1),
     (Source::RandomValues, 1),
     (Source::DamagedOrRandom, 2),
 ];
@@ -92,8 +106,12 @@ const PLAN: [(Source, usize); 24] = [
 #[derive(Clone, Copy)]
 enum Source {
     Planted(Shape, WrongRows),
-    /// Made to be refused with one of these two numbers.
-    Faulty(u32, u32),
+    /// An answer within df for every output, and none within each output's own bound.
+    BeyondOwnBound,
+    /// Made to be refused with this number.
+    Faulty(u32),
+    SpareBit,
+    Broken,
     RandomValues,
     DamagedOrRandom,
 }
@@ -101,12 +119,13 @@ enum Source {
 /// The job of this number in the run of this seed.
 pub fn generate(seed: u64, index: u64) -> GeneratedJob {
     let mut random = Random::new(seed, index);
-    let mut job = match planned(&PLAN, index).0 {
+    let (source, turn) = planned(&PLAN, index);
+    let mut job = match source {
         Source::Planted(shape, wrong) => from_planted(&mut random, shape, wrong),
-        Source::Faulty(number, other) => {
-            let number = if random.once_in(2) { number } else { other };
-            faulty::refused(&mut random, number)
-        }
+        Source::BeyondOwnBound => from_beyond_own_bound(&mut random),
+        Source::Faulty(number) => faulty::refused(&mut random, number),
+        Source::SpareBit => faulty::spare_bit(&mut random),
+        Source::Broken => faulty::broken(&mut random, Broken::of_turn(turn, &OTHER_FAULTS)),
         Source::RandomValues => faulty::random_values(&mut random),
         Source::DamagedOrRandom if random.once_in(2) => faulty::damaged(&mut random),
         Source::DamagedOrRandom => faulty::random_bytes(&mut random),
@@ -142,6 +161,22 @@ fn from_planted(random: &mut Random, shape: Shape, wrong: WrongRows) -> Generate
         let wrong = planted.word.count_ones();
         Expected::Answered { bytes, wrong }
     };
+    sufficient(random, kinds, &planted, expected)
+}
+
+fn from_beyond_own_bound(random: &mut Random) -> GeneratedJob {
+    let planted = beyond_own_bound(random);
+    let expected = Expected::Refused { number: 8, row: 0 };
+    sufficient(random, vec![Kind::BeyondOwnBound], &planted, expected)
+}
+
+/// A job with an area that is long enough for its answer.
+fn sufficient(
+    random: &mut Random,
+    mut kinds: Vec<Kind>,
+    planted: &Planted,
+    expected: Expected,
+) -> GeneratedJob {
     let surplus = match random.below(2) {
         0 => 0,
         _ => random.between(1, 40),
@@ -197,6 +232,7 @@ fn new_job(
         bytes,
         area,
         expected,
+        broken: None,
     }
 }
 
@@ -204,10 +240,11 @@ impl GeneratedJob {
     /// Everything needed to try the job again.
     pub fn describe(&self) -> String {
         format!(
-            "seed {} job {} kinds {:?}\njob bytes {}\narea before {}",
+            "seed {} job {} kinds {:?} {:?}\njob bytes {}\narea before {}",
             self.seed,
             self.index,
             self.kinds,
+            self.broken,
             hex::text(&self.bytes),
             hex::text(&self.area)
         )

@@ -13,7 +13,7 @@
 //! the source's. Everything is taken modulo a prime.
 
 use crate::jobs::Random;
-use crate::layout::{Job, Row};
+use crate::layout::{HeaderForm, Job, Row};
 use crate::second::polynomial::Polynomial;
 use crate::second::Field;
 
@@ -163,9 +163,9 @@ impl Ladder {
     /// The job of this ladder modulo 65521, with bits flipped in as many rows as the bounds allow.
     pub fn job(&self, random: &mut Random) -> Spoiled {
         let mut job = Job {
+            header: HeaderForm::Short,
             prime_code: 3,
-            outputs: NODES,
-            numerator_bound: 6,
+            numerator_bounds: vec![6; NODES],
             denominator_bound: 7,
             error_bound: 8,
             rows: Vec::new(),

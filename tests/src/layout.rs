@@ -1,10 +1,12 @@
-//! The formats of paper 01 as the generator and the tests use them: job and answer bytes written and
-//! read back. The solvers have readers and writers of their own.
+//! The formats of paper 01, with the longer header of paper 02, as the generator and the tests use
+//! them: job and answer bytes written and read back. The solvers have readers and writers of their own.
 
 /// The primes by their codes.
 pub const PRIMES: [u32; 4] = [7, 97, 257, 65521];
 /// The most rows that a header can name.
 pub const MOST_ROWS: usize = 31;
+/// The most bytes that a job can have: the longer header, 31 rows, four outputs.
+pub const LONGEST_JOB: usize = 317;
 
 #[derive(Clone, Debug, PartialEq, Eq)]
 pub struct Row {
@@ -12,12 +14,39 @@ pub struct Row {
     pub values: Vec<u32>,
 }
 
+/// Which of the two headers a job begins with.
+#[derive(Clone, Copy, Debug, PartialEq, Eq, PartialOrd, Ord)]
+pub enum HeaderForm {
+    /// Three bytes with the spare bit 0; df bounds every f.
+    Short,
+    /// Four more bytes behind the spare bit 1: a bound for each f, and flags.
+    Longer,
+}
+
+impl HeaderForm {
+    pub const ALL: [HeaderForm; 2] = [HeaderForm::Short, HeaderForm::Longer];
+
+    /// The form of the header that three bytes or more begin with.
+    pub fn of(bytes: &[u8]) -> HeaderForm {
+        HeaderForm::ALL[usize::from(bytes[2] % 2)]
+    }
+
+    /// How many bytes the header has.
+    pub fn length(self) -> usize {
+        match self {
+            HeaderForm::Short => 3,
+            HeaderForm::Longer => 7,
+        }
+    }
+}
+
 /// A job as its header's fields and its rows; nothing is tested until it is read by a solver.
 #[derive(Clone, Debug, PartialEq, Eq)]
 pub struct Job {
+    pub header: HeaderForm,
     pub prime_code: usize,
-    pub outputs: usize,
-    pub numerator_bound: usize,
+    /// The bound of each f; there are as many as outputs. They are equal under the short header.
+    pub numerator_bounds: Vec<usize>,
     pub denominator_bound: usize,
     pub error_bound: usize,
     pub rows: Vec<Row>,
@@ -28,57 +57,140 @@ impl Job {
         PRIMES[self.prime_code]
     }
 
+    pub fn outputs(&self) -> usize {
+        self.numerator_bounds.len()
+    }
+
+    /// df, the largest bound of an f.
+    pub fn numerator_bound(&self) -> usize {
+        let largest = self.numerator_bounds.iter().max();
+        *largest.expect("an output")
+    }
+
+    pub fn has_equal_bounds(&self) -> bool {
+        let df = self.numerator_bound();
+        self.numerator_bounds.iter().all(|&bound| bound == df)
+    }
+
+    /// The forms of header that the job can have: the short one only where all bounds are equal.
+    pub fn headers(&self) -> &'static [HeaderForm] {
+        match self.has_equal_bounds() {
+            true => &HeaderForm::ALL,
+            false => &[HeaderForm::Longer],
+        }
+    }
+
+    /// The same job under a header of this form; under the short one df bounds every f.
+    pub fn under(&self, header: HeaderForm) -> Job {
+        let mut job = Job {
+            header,
+            ..self.clone()
+        };
+        if header == HeaderForm::Short {
+            let df = self.numerator_bound();
+            job.numerator_bounds.fill(df);
+        }
+        job
+    }
+
     /// df + dg + 2E + 1.
     pub fn needed_rows(&self) -> usize {
-        self.numerator_bound + self.denominator_bound + 2 * self.error_bound + 1
+        self.numerator_bound() + self.denominator_bound + 2 * self.error_bound + 1
     }
 
     pub fn answer_length(&self) -> usize {
-        4 + 2 * (self.denominator_bound + 1 + self.outputs * (self.numerator_bound + 1))
+        let numerators: usize = self.numerator_bounds.iter().map(|bound| bound + 1).sum();
+        4 + 2 * (self.denominator_bound + 1 + numerators)
+    }
+
+    /// The coefficients of each f, in a list where those of f1, f2, .. stand one after the other.
+    pub fn numerators_in<'a>(
+        &'a self,
+        coefficients: &'a [u32],
+    ) -> impl Iterator<Item = &'a [u32]> + 'a {
+        let mut rest = coefficients;
+        self.numerator_bounds.iter().map(move |bound| {
+            let (own, others) = rest.split_at(bound + 1);
+            rest = others;
+            own
+        })
     }
 
     pub fn pack(&self) -> Vec<u8> {
-        let fields = [
-            (2, self.prime_code),
-            (2, self.outputs - 1),
-            (5, self.rows.len()),
-            (5, self.numerator_bound),
-            (5, self.denominator_bound),
-            (4, self.error_bound),
-            (1, 0),
-        ];
-        let mut bits = 0u32;
-        for (width, number) in fields {
-            assert!(number < 1 << width, "{number} does not fit {width} bits");
-            bits = bits << width | number as u32;
-        }
-        let mut bytes = bits.to_be_bytes()[1..].to_vec();
+        let mut bytes = self.packed_header();
         for row in &self.rows {
             bytes.extend(packed_row(row));
         }
         bytes
     }
 
-    /// The job that well formed bytes hold. Of other bytes, three at least, it has the header's
-    /// fields, and as many rows as are whole.
+    pub fn packed_header(&self) -> Vec<u8> {
+        let is_short = self.header == HeaderForm::Short;
+        assert!(!is_short || self.has_equal_bounds(), "{self:?}");
+        let fields = [
+            (2, self.prime_code),
+            (2, self.outputs() - 1),
+            (5, self.rows.len()),
+            (5, self.numerator_bound()),
+            (5, self.denominator_bound),
+            (4, self.error_bound),
+            (1, usize::from(!is_short)),
+        ];
+        let bounds = self.numerator_bounds.iter().map(|&bound| (5, bound));
+        let absent = std::iter::repeat_n((5, 0), 4 - self.outputs());
+        let added = bounds.chain(absent).chain([(12, 0)]);
+        let added = added.filter(|_| !is_short);
+        let mut bits = 0u64;
+        for (width, number) in fields.into_iter().chain(added) {
+            assert!(number < 1 << width, "{number} does not fit {width} bits");
+            bits = bits << width | number as u64;
+        }
+        bits.to_be_bytes()[8 - self.header.length()..].to_vec()
+    }
+
+    /// The job that well formed bytes hold. Of other bytes, a whole header at least, it has the
+    /// header's fields, and as many rows as are whole; the bounds under the longer header are those
+    /// of the outputs that exist, and df is the largest of them.
     pub fn unpack(bytes: &[u8]) -> Job {
-        let header = number(&bytes[..2]) << 8 | u32::from(bytes[2]);
-        let field = |low: u32, width: u32| (header >> low) as usize % (1 << width);
-        let outputs = field(20, 2) + 1;
+        let fields = number(&bytes[..2]) << 8 | u32::from(bytes[2]);
+        let field = |low: u32, width: u32| (fields >> low) as usize % (1 << width);
+        let (header, outputs) = (HeaderForm::of(bytes), field(20, 2) + 1);
+        let numerator_bounds = match header {
+            HeaderForm::Short => vec![field(10, 5); outputs],
+            HeaderForm::Longer => added_bounds(&bytes[3..7])[..outputs].to_vec(),
+        };
         let row = |stretch: &[u8]| Row {
             point: number(&stretch[..2]),
             values: stretch[2..].chunks(2).map(number).collect(),
         };
-        let rows = bytes[3..].chunks_exact(2 * (1 + outputs));
+        let rows = bytes[header.length()..].chunks_exact(2 * (1 + outputs));
         Job {
+            header,
             prime_code: field(22, 2),
-            outputs,
-            numerator_bound: field(10, 5),
+            numerator_bounds,
             denominator_bound: field(5, 5),
             error_bound: field(1, 4),
             rows: rows.map(row).collect(),
         }
     }
+}
+
+/// Whether the added header of bytes that begin with the longer one meets every rule of paper 02.
+pub fn has_sound_added_header(bytes: &[u8]) -> bool {
+    let (df, outputs) = (
+        usize::from(bytes[1] / 4 % 32),
+        usize::from(bytes[0] / 16 % 4) + 1,
+    );
+    let bounds = added_bounds(&bytes[3..7]);
+    let flags = number(&bytes[5..7]) % 4096;
+    let has_absent = bounds[outputs..].iter().any(|&bound| bound > 0);
+    bounds[..outputs].iter().max() == Some(&df) && !has_absent && flags == 0
+}
+
+/// The four bounds in the four bytes of an added header.
+fn added_bounds(added: &[u8]) -> [usize; 4] {
+    let bits = number(&added[..2]) << 16 | number(&added[2..]);
+    [27, 22, 17, 12].map(|low| (bits >> low) as usize % 32)
 }
 
 /// The 16-bit number in two bytes.
@@ -113,8 +225,8 @@ impl Answer {
             }
         };
         push(&self.denominator, job.denominator_bound);
-        for numerator in &self.numerators {
-            push(numerator, job.numerator_bound);
+        for (numerator, &bound) in self.numerators.iter().zip(&job.numerator_bounds) {
+            push(numerator, bound);
         }
         bytes
     }
@@ -127,10 +239,7 @@ impl Answer {
         Answer {
             word,
             denominator: denominator.to_vec(),
-            numerators: numerators
-                .chunks(job.numerator_bound + 1)
-                .map(<[u32]>::to_vec)
-                .collect(),
+            numerators: job.numerators_in(numerators).map(<[u32]>::to_vec).collect(),
         }
     }
 

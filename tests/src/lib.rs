@@ -3,6 +3,7 @@
 
 #![forbid(unsafe_code)]
 
+pub mod compared;
 pub mod definition;
 pub mod jobs;
 pub mod ladder;

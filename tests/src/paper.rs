@@ -1,4 +1,5 @@
-//! The worked examples of paper 01, typed from it.
+//! The worked examples of paper 01, typed from it, and examples of the longer header of paper 02, item 5, worked out by
+//! hand.
 
 use hanthuvelo::Report;
 
@@ -102,7 +103,8 @@ pub const EXAMPLES: [Example; 13] = [
 /// The example inputs of the table of refusals, and the cases named in the text below it.
 pub const REFUSALS: [Example; 10] = [
     refused("1", "01 80", 8, 1, 0),
-    refused("2", "01 80 03", 8, 2, 0),
+    // Refused with 2 until item 5 of paper 02.
+    refused("2", "01 80 03", 8, 1, 0),
     refused("3", "01 80 02 00 00", 8, 3, 0),
     refused("4", "01 00 02 0000 0005 0001 0005", 8, 4, 0),
     refused("5", "01 80 02 0000 0005 0001 0005 0002 0007", 8, 5, 2),
@@ -113,8 +115,135 @@ pub const REFUSALS: [Example; 10] = [
     refused("header and surplus bytes", "00 00 00 FF", 8, 3, 0),
 ];
 
+/// Jobs with the longer header, modulo 7. In the added header f1 has the bits 0x F8000000, f2 0x 07C00000, f3 0x 003E0000,
+/// f4 0x 0001F000; the flags are 0x FFF.
+pub const LONGER: [Example; 6] = [
+    // H1 with the bound 0 for f1.
+    answered(
+        "H1 longer",
+        "01 80 03 00000000 0000 0005 0001 0005 0002 0002",
+        "20000000 0001 0005",
+        8,
+        1,
+    ),
+    // n 3, L 4, df 2, dg 1, E 0 are 00 10 00100 00010 00001 0000 1; the bounds 2, 0, 1 are 00010 00000 00001 00000.
+    // g = 1 + u is 1, 2, 3, 4 at the points 0 to 3, with the reciprocals 1, 4, 5, 2. f1 = 1 + u^2 is 1, 2, 5, 3, so y1 is
+    // 1, 1, 4, 6; f2 = 3, so y2 is 3, 5, 1, 6; f3 = 2u is 0, 2, 4, 6, so y3 is 0, 1, 6, 5. f2 is a unit, so it is reduced.
+    answered(
+        "bounds 2, 0, 1",
+        "22 08 21 10020000 0000 0001 0003 0000 0001 0001 0005 0001 0002 0004 0001 0006 0003 0006 0006 0005",
+        "00000000 0001 0001 0001 0000 0001 0003 0000 0002",
+        20,
+        0,
+    ),
+    // n 2, L 4, df 1, dg 0, E 1 are 00 01 00100 00001 00000 0001 1; the bounds 0, 1 are 00000 00001. g = 1, f1 = 4 and
+    // f2 = 2 + 3u, which is 2, 5, 1, 4; in row 1 y1 is 5 in place of 4.
+    answered(
+        "bounds 0, 1",
+        "12 04 03 00400000 0000 0004 0002 0001 0005 0005 0002 0004 0001 0003 0004 0004",
+        "40000000 0001 0004 0002 0003",
+        12,
+        1,
+    ),
+    // The same rows with the bounds 1, 0: f2 has the degree 1. Within df for both there is one answer only, that of the
+    // next example, so within these bounds there is none.
+    refused(
+        "bounds 1, 0",
+        "12 04 03 08000000 0000 0004 0002 0001 0005 0005 0002 0004 0001 0003 0004 0004",
+        12,
+        8,
+        0,
+    ),
+    answered(
+        "bounds 1, 1",
+        "12 04 03 08400000 0000 0004 0002 0001 0005 0005 0002 0004 0001 0003 0004 0004",
+        "40000000 0001 0004 0000 0002 0003",
+        14,
+        1,
+    ),
+    // The same with the short header.
+    answered(
+        "df 1",
+        "12 04 02 0000 0004 0002 0001 0005 0005 0002 0004 0001 0003 0004 0004",
+        "40000000 0001 0004 0000 0002 0003",
+        14,
+        1,
+    ),
+];
+
+/// The added header broken in each way, and each refusal beside it in the order 1, 11, 3, 4, 5, 6, 7, 8. Where nothing else
+/// is said, it is H1's job.
+pub const LONGER_REFUSALS: [Example; 30] = [
+    refused("1, four bytes", "01 80 03 00", 8, 1, 0),
+    refused("1, five bytes", "01 80 03 0000", 8, 1, 0),
+    refused("1, six bytes", "01 80 03 000000", 8, 1, 0),
+    refused("1 before 11", "01 80 03 FFFFFF", 8, 1, 0),
+    refused("11 for f2", "01 80 03 00400000 0000 0005 0001 0005 0002 0002", 8, 11, 0),
+    refused("11 for f3", "01 80 03 00020000 0000 0005 0001 0005 0002 0002", 8, 11, 0),
+    refused("11 for f4", "01 80 03 00001000 0000 0005 0001 0005 0002 0002", 8, 11, 0),
+    refused("11, df below f1", "01 80 03 08000000 0000 0005 0001 0005 0002 0002", 10, 11, 0),
+    // df 1, dg 0, E 0 are 00001 00000 0000 1.
+    refused("11, df above f1", "01 84 01 00000000 0000 0005 0001 0005 0002 0002", 10, 11, 0),
+    // The largest of all four places is df, the largest of those that exist is not.
+    refused("11, df at f2", "01 84 01 00400000 0000 0005 0001 0005 0002 0002", 10, 11, 0),
+    refused("11, flag 1", "01 80 03 00000800 0000 0005 0001 0005 0002 0002", 8, 11, 0),
+    refused("11, flag 5", "01 80 03 00000080 0000 0005 0001 0005 0002 0002", 8, 11, 0),
+    refused("11, flag 12", "01 80 03 00000001 0000 0005 0001 0005 0002 0002", 8, 11, 0),
+    // Three of the bounds 2, 0, 1 exist.
+    refused(
+        "11 for f4, three outputs",
+        "22 08 21 10021000 0000 0001 0003 0000 0001 0001 0005 0001 0002 0004 0001 0006 0003 0006 0006 0005",
+        20,
+        11,
+        0,
+    ),
+    refused(
+        "11, df below f3",
+        "22 08 21 10060000 0000 0001 0003 0000 0001 0001 0005 0001 0002 0004 0001 0006 0003 0006 0006 0005",
+        24,
+        11,
+        0,
+    ),
+    refused(
+        "11, df above all",
+        "22 08 21 08020000 0000 0001 0003 0000 0001 0001 0005 0001 0002 0004 0001 0006 0003 0006 0006 0005",
+        20,
+        11,
+        0,
+    ),
+    refused("11 before 3", "01 80 03 00000001", 8, 11, 0),
+    refused("11 before 4", "01 00 03 00000001 0000 0005 0001 0005", 8, 11, 0),
+    refused("11 before 5", "01 80 03 00000001 0000 0005 0001 0005 0002 0007", 8, 11, 0),
+    refused("11 before 6", "01 80 03 00000001 0000 0005 0001 0005 0000 0002", 8, 11, 0),
+    refused("11 before 7", "01 80 03 00000001 0000 0005 0001 0005 0002 0002", 7, 11, 0),
+    refused("11 before 8", "01 80 03 00000001 0000 0005 0001 0004 0002 0002", 8, 11, 0),
+    refused("3, no rows", "01 80 03 00000000", 8, 3, 0),
+    refused("3, a byte more", "01 80 03 00000000 0000 0005 0001 0005 0002 0002 00", 8, 3, 0),
+    // As many bytes as with the short header.
+    refused("3, four bytes less", "01 80 03 00000000 0000 0005 0001 0005", 8, 3, 0),
+    refused("4, no rows", "00 00 01 00000000", 8, 4, 0),
+    // n 2, L 1, df 1 are 00 01 00001 00001: the bounds 0, 1 and 1, 0 ask for two rows, although the lower one asks for one.
+    refused("4 by the bound of f2", "10 84 01 00400000 0000 0000 0000", 12, 4, 0),
+    refused("4 by the bound of f1", "10 84 01 08000000 0000 0000 0000", 12, 4, 0),
+    // The bounds 0, 1 need 12 bytes, and 14 with df for both.
+    refused(
+        "7 by each bound",
+        "12 04 03 00400000 0000 0004 0002 0001 0005 0005 0002 0004 0001 0003 0004 0004",
+        11,
+        7,
+        0,
+    ),
+    refused(
+        "5 behind the longer header",
+        "12 04 03 00400000 0000 0004 0002 0001 0007 0005 0002 0004 0001 0003 0004 0007",
+        12,
+        5,
+        1,
+    ),
+];
+
 /// Examples with bytes of the right number that are not the job's answer.
-pub const NOT_ANSWERS: [(&str, &str); 27] = [
+pub const NOT_ANSWERS: [(&str, &str); 31] = [
     // Row 1 marked, no row, row 1 too, and a row that does not exist.
     ("H1", "40000000 0001 0005"),
     ("H1", "00000000 0001 0005"),
@@ -152,7 +281,25 @@ pub const NOT_ANSWERS: [(&str, &str); 27] = [
     ("H9", "C0000000 0001 0002"),
     // 1 + 65521.
     ("H10", "00000000 FFF2 FFF0"),
+    // f2 and f3 the other way round, f3 at the place it would have behind df + 1 coefficients of f2, f1 at its end.
+    (
+        "bounds 2, 0, 1",
+        "00000000 0001 0001 0001 0000 0001 0000 0002 0003",
+    ),
+    (
+        "bounds 2, 0, 1",
+        "00000000 0001 0001 0001 0000 0001 0003 0000 0000",
+    ),
+    (
+        "bounds 2, 0, 1",
+        "00000000 0001 0001 0003 0000 0002 0001 0000 0001",
+    ),
+    // f2 cut at its bound.
+    ("bounds 1, 0", "40000000 0001 0004 0000 0002"),
 ];
+
+/// What the printing program writes for the example with the bounds 2, 0 and 1.
+pub const BOUNDS_PRINTED: &str = "recovered 0\nwrong\ng 1 1\nf1 1 0 1\nf2 3\nf3 0 2\n";
 
 /// The whole output of the printing program for H1.
 pub const H1_PRINTED: &str = "recovered 1\nwrong 2\ng 1\nf1 5\n";

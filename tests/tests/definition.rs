@@ -3,9 +3,9 @@
 use hanthuvelo::hex;
 use hanthuvelo::Report;
 use outside_checks::definition::{answers, candidates, for_each_smallest_job};
-use outside_checks::implementations;
 use outside_checks::jobs::Random;
-use outside_checks::layout::{Job, Row};
+use outside_checks::layout::{HeaderForm, Job, Row};
+use outside_checks::{implementations, Implementation};
 
 const SEED: u64 = 31;
 const SURPLUS: usize = 3;
@@ -15,6 +15,17 @@ struct Counts {
     jobs: usize,
     answered: usize,
     candidates: u64,
+}
+
+/// Every implementation with the job's bytes under each header.
+fn calls(job: &Job) -> Vec<(Implementation, Vec<u8>)> {
+    let under = |form: &HeaderForm| job.under(*form).pack();
+    let packed: Vec<Vec<u8>> = job.headers().iter().map(under).collect();
+    let of_bytes = |bytes: Vec<u8>| {
+        let all = implementations().into_iter();
+        all.map(move |each| (each, bytes.clone()))
+    };
+    packed.into_iter().flat_map(of_bytes).collect()
 }
 
 /// The definition's report and area, which every implementation must return.
@@ -33,8 +44,7 @@ fn compare(job: &Job, counts: &mut Counts) {
         }
         None => Report::refused(8, 0),
     };
-    let bytes = job.pack();
-    for implementation in implementations() {
+    for (implementation, bytes) in calls(job) {
         let mut area = before.clone();
         let report = (implementation.recover)(&bytes, &mut area);
         assert!(
@@ -66,60 +76,74 @@ fn show(name: &str, counts: &Counts) {
 #[test]
 fn all_values_of_the_smallest_jobs() {
     let mut counts = Counts::default();
-    // Outputs, df, dg, E.
-    for bounds in [
-        (1, 0, 0, 0),
-        (1, 0, 0, 1),
-        (1, 0, 1, 0),
-        (1, 1, 0, 0),
-        (1, 1, 1, 0),
-        (1, 0, 2, 0),
-        (1, 2, 0, 0),
-        (1, 0, 1, 1),
-        (1, 1, 0, 1),
-        (1, 1, 1, 1),
-        (1, 0, 0, 2),
-        (1, 2, 1, 0),
-        (1, 1, 2, 0),
-        (2, 0, 0, 0),
-        (2, 0, 1, 0),
-        (2, 1, 0, 0),
-        (2, 0, 0, 1),
-        (3, 0, 0, 0),
-        (4, 0, 0, 0),
-    ] {
+    // The bound of each f, dg, E.
+    let bounds: [(&[usize], usize, usize); 21] = [
+        (&[0], 0, 0),
+        (&[0], 0, 1),
+        (&[0], 1, 0),
+        (&[1], 0, 0),
+        (&[1], 1, 0),
+        (&[0], 2, 0),
+        (&[2], 0, 0),
+        (&[0], 1, 1),
+        (&[1], 0, 1),
+        (&[1], 1, 1),
+        (&[0], 0, 2),
+        (&[2], 1, 0),
+        (&[1], 2, 0),
+        (&[0, 0], 0, 0),
+        (&[0, 0], 1, 0),
+        (&[1, 1], 0, 0),
+        (&[1, 0], 0, 0),
+        (&[0, 1], 0, 0),
+        (&[0, 0], 0, 1),
+        (&[0, 0, 0], 0, 0),
+        (&[0, 0, 0, 0], 0, 0),
+    ];
+    for bounds in bounds {
         for_each_smallest_job(bounds, &mut |job| compare(job, &mut counts));
     }
     show("all values of the smallest jobs", &counts);
 }
 
-/// Small bounds, 7 rows at most, and either random values or values of a random fraction with a
-/// number of random rows.
-fn random_job(random: &mut Random) -> Job {
+/// Small bounds, 7 rows at most, and random values.
+fn random_values(random: &mut Random) -> Job {
     let row_count = random.between(1, 7);
     let errors = random.between(0, (row_count - 1) / 2);
     let room = row_count - 1 - 2 * errors;
     let df = random.between(0, room);
     let dg = random.between(0, room - df);
     let outputs = random.between(1, 4);
+    let numerator_bounds = random_bounds(random, outputs, df);
     let mut points: Vec<u32> = (0..7).collect();
     random.shuffle(&mut points);
-    let mut draw = |count: usize| (0..count).map(|_| random.residue(7)).collect::<Vec<u32>>();
-    let denominator = draw(dg + 1);
-    let numerators: Vec<Vec<u32>> = (0..outputs).map(|_| draw(df + 1)).collect();
     let rows = points[..row_count].iter().map(|&point| Row {
         point,
-        values: draw(outputs),
+        values: (0..outputs).map(|_| random.residue(7)).collect(),
     });
-    let mut job = Job {
+    Job {
+        header: HeaderForm::Longer,
         prime_code: 0,
-        outputs,
-        numerator_bound: df,
+        numerator_bounds,
         denominator_bound: dg,
         error_bound: errors,
         rows: rows.collect(),
+    }
+}
+
+/// The same, or values of a random fraction with a number of random rows.
+fn random_job(random: &mut Random) -> Job {
+    let mut job = random_values(random);
+    // At times the fraction passes the bound of an output, though not df.
+    let bounds = match random.once_in(5) {
+        true => vec![job.numerator_bound(); job.outputs()],
+        false => job.numerator_bounds.clone(),
     };
-    let spoilt = random.between(0, errors + 1);
+    let mut draw = |bound: usize| (0..=bound).map(|_| random.residue(7)).collect::<Vec<u32>>();
+    let denominator = draw(job.denominator_bound);
+    let numerators: Vec<Vec<u32>> = bounds.into_iter().map(&mut draw).collect();
+    let row_count = job.rows.len();
+    let spoilt = random.between(0, job.error_bound + 1);
     let fitted = if random.once_in(6) {
         row_count
     } else {
@@ -128,6 +152,16 @@ fn random_job(random: &mut Random) -> Job {
     fit_rows(&mut job.rows[fitted..], &denominator, &numerators);
     random.shuffle(&mut job.rows);
     job
+}
+
+/// df for every f, or for one of them and for each other one its own bound.
+fn random_bounds(random: &mut Random, outputs: usize, df: usize) -> Vec<usize> {
+    let mut bounds = vec![df; outputs];
+    if random.once_in(2) {
+        bounds.fill_with(|| random.between(0, df));
+        bounds[random.below(outputs)] = df;
+    }
+    bounds
 }
 
 /// The values of a fraction modulo 7, found by search; rows where it has none stay as they are.
@@ -144,16 +178,29 @@ fn fit_rows(rows: &mut [Row], denominator: &[u32], numerators: &[Vec<u32>]) {
     }
 }
 
-#[test]
-fn random_small_jobs() {
+/// Compares so many random jobs that are wanted and not too large.
+fn compare_random(name: &str, count: usize, is_wanted: fn(&Job) -> bool) -> Counts {
     let mut counts = Counts::default();
-    let mut random = Random::new(SEED, 0);
-    while counts.jobs < 6000 {
+    let mut random = Random::new(SEED, count as u64);
+    while counts.jobs < count {
         let job = random_job(&mut random);
-        if candidates(&job) <= 20_000 {
+        if candidates(&job) <= 20_000 && is_wanted(&job) {
             compare(&job, &mut counts);
         }
     }
-    show("random small jobs", &counts);
+    show(name, &counts);
+    counts
+}
+
+#[test]
+fn random_small_jobs() {
+    let counts = compare_random("random small jobs", 6000, |_| true);
     assert!(counts.answered >= 2000 && counts.jobs - counts.answered >= 1000);
+}
+
+#[test]
+fn random_small_jobs_with_bounds_that_differ() {
+    let name = "random small jobs with bounds that differ";
+    let counts = compare_random(name, 3000, |job| !job.has_equal_bounds());
+    assert!(counts.answered >= 600 && counts.jobs - counts.answered >= 1000);
 }

@@ -4,7 +4,7 @@ use hanthuvelo::hex;
 use hanthuvelo::Report;
 use outside_checks::jobs::enlargement::{generate, Pair};
 use outside_checks::jobs::Random;
-use outside_checks::layout::{is_right, packed_row, row_bit, Answer, Job, Row};
+use outside_checks::layout::{is_right, packed_row, row_bit, Answer, HeaderForm, Job, Row};
 use outside_checks::{implementations, show, Implementation};
 
 const SEED: u64 = 5;
@@ -23,6 +23,11 @@ struct Counts {
     fewer_errors_allowed: usize,
     smaller_bound: usize,
     further_wrong: usize,
+    /// By whether the smaller and the larger job have the longer header.
+    headers: [[usize; 2]; 2],
+    own_bound_below: usize,
+    own_bound_above: usize,
+    differing: usize,
 }
 
 /// What a call returns and what its area holds afterwards.
@@ -74,7 +79,8 @@ fn meets_bounds(answer: &Answer, job: &Job) -> bool {
     denominator.len() <= job.denominator_bound + 1
         && numerators
             .iter()
-            .all(|numerator| numerator.len() <= job.numerator_bound + 1)
+            .zip(&job.numerator_bounds)
+            .all(|(numerator, bound)| numerator.len() <= bound + 1)
 }
 
 fn try_pair(implementation: Implementation, pair: &Pair, random: &mut Random, counts: &mut Counts) {
@@ -121,13 +127,45 @@ impl Counts {
         self.no_further_rows += usize::from(larger.rows.len() == smaller.rows.len());
         self.fewer_errors_allowed += usize::from(errors[1] < errors[0]);
         self.smaller_bound += usize::from(
-            larger.numerator_bound < smaller.numerator_bound
+            larger.numerator_bound() < smaller.numerator_bound()
                 || larger.denominator_bound < smaller.denominator_bound,
         );
+        let [first, second] =
+            [smaller, larger].map(|job| usize::from(job.header == HeaderForm::Longer));
+        self.headers[first][second] += 1;
+        let bounds = || {
+            larger
+                .numerator_bounds
+                .iter()
+                .zip(&smaller.numerator_bounds)
+        };
+        self.own_bound_below += usize::from(same && bounds().any(|(own, other)| own < other));
+        self.own_bound_above += usize::from(same && bounds().any(|(own, other)| own > other));
+        self.differing += usize::from(same && !larger.has_equal_bounds());
     }
 
-    fn lines(&self) -> [(&'static str, usize, usize); 10] {
+    fn lines(&self) -> [(&'static str, usize, usize); 19] {
+        let [[both_short, to_longer], [to_short, both_longer]] = self.headers;
+        let (smaller, larger) = (to_short + both_longer, to_longer + both_longer);
+        let half = self.pairs / 2 + 1;
         [
+            ("longer header of T", smaller, half),
+            ("longer header of T'", larger, half),
+            ("both headers short", both_short, 500),
+            ("T short, T' longer", to_longer, 1000),
+            ("T longer, T' short", to_short, 1000),
+            ("both headers longer", both_longer, 2000),
+            (
+                "same fraction, a bound of f below T's",
+                self.own_bound_below,
+                1000,
+            ),
+            (
+                "same fraction, a bound of f above T's",
+                self.own_bound_above,
+                500,
+            ),
+            ("same fraction, bounds of T' differ", self.differing, 1000),
             ("pairs", self.pairs, 10_000),
             ("k + w within E', same fraction", self.same, 4000),
             ("k + w equal to E'", self.same_with_all_errors, 1000),
@@ -157,7 +195,7 @@ fn the_larger_job_follows_the_rule() {
         }
         let mut text = format!("\nenlargement rule, {}\n", implementation.name);
         for (name, count, floor) in counts.lines() {
-            text += &format!("{name:<36}{count:>8}  floor {floor:>6}\n");
+            text += &format!("{name:<38}{count:>8}  floor {floor:>6}\n");
         }
         show(&text);
         assert!(

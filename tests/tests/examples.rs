@@ -1,6 +1,7 @@
 //! The example files: their jobs, and what the printing program writes for them.
 
 use hanthuvelo::{hex, readable};
+use outside_checks::layout::{HeaderForm, Job, LONGEST_JOB};
 use outside_checks::paper::EXAMPLES;
 use outside_checks::second::printed;
 use std::fs;
@@ -44,20 +45,32 @@ fn the_files_of_the_paper_pack_into_its_bytes() {
 #[test]
 fn every_file_has_its_printed_text() {
     let names = names();
-    assert_eq!(names.len(), 15);
+    assert_eq!(names.len(), 16);
+    let has_longer_header = |name: &String| {
+        let job = packed(&format!("{name}.job"));
+        HeaderForm::of(&job) == HeaderForm::Longer
+    };
+    assert!(names.iter().any(has_longer_header));
     for name in names {
         let text = printed(&packed(&format!("{name}.job")));
         assert_eq!(text, read(&format!("{name}.out")), "{name}");
     }
 }
 
+/// Under the longer header it is the longest of all; with a byte more it fills what the program reads.
 #[test]
 fn one_byte_more_than_the_longest_job() {
-    let mut input = packed("full.job");
-    assert_eq!(input.len(), 313);
-    assert!(printed(&input).starts_with("recovered 6\n"));
-    input.push(0);
-    assert_eq!(printed(&input), "refused 3 0\n");
+    let short = packed("full.job");
+    assert_eq!(short.len(), 313);
+    let text = printed(&short);
+    assert!(text.starts_with("recovered 6\n"));
+    let longer = Job::unpack(&short).under(HeaderForm::Longer).pack();
+    assert_eq!(longer.len(), LONGEST_JOB);
+    assert_eq!(printed(&longer), text);
+    for mut input in [short, longer] {
+        input.push(0);
+        assert_eq!(printed(&input), "refused 3 0\n");
+    }
 }
 
 #[cfg(feature = "program")]

@@ -1,9 +1,12 @@
-//! The examples of paper 01 against every implementation.
+//! The examples of paper 01, and those of the longer header, against every implementation.
 
-use hanthuvelo::{hex, Form, Judgement, Report};
-use outside_checks::paper::{Example, EXAMPLES, H1_PRINTED, NOT_ANSWERS, REFUSALS};
+use hanthuvelo::{hex, Form, Judgement, Report, Written};
+use outside_checks::layout::{HeaderForm, Job};
+use outside_checks::paper::{
+    Example, BOUNDS_PRINTED, EXAMPLES, H1_PRINTED, LONGER, LONGER_REFUSALS, NOT_ANSWERS, REFUSALS,
+};
 use outside_checks::second;
-use outside_checks::{checkers, implementations, judges, Implementation};
+use outside_checks::{checkers, implementations, judges, writers, Implementation};
 
 /// Bytes behind the area that the example names, to see that they stay.
 const SURPLUS: usize = 9;
@@ -43,6 +46,63 @@ fn the_refusals_of_the_table() {
 }
 
 #[test]
+fn the_examples_of_the_longer_header() {
+    for implementation in implementations() {
+        for example in &LONGER {
+            try_example(implementation, example, 0);
+            try_example(implementation, example, SURPLUS);
+        }
+        for example in &LONGER_REFUSALS {
+            try_example(implementation, example, 0);
+        }
+    }
+}
+
+/// Every example of paper 01 of three bytes or more, but for the one of refusal 2, is answered alike under the longer
+/// header with equal bounds.
+#[test]
+fn the_examples_of_the_paper_under_the_longer_header() {
+    let mut count = 0;
+    for example in EXAMPLES.iter().chain(&REFUSALS) {
+        let job = paper_bytes(example.job);
+        if job.len() < 3 || HeaderForm::of(&job) == HeaderForm::Longer {
+            continue;
+        }
+        let header = Job::unpack(&job[..3]);
+        let mut longer = job.clone();
+        longer[2] |= 1;
+        let bounds = header.under(HeaderForm::Longer).packed_header();
+        longer.splice(3..3, bounds[3..].iter().copied());
+        for implementation in implementations() {
+            let mut area = vec![0xA5; example.area_length];
+            let mut expected = area.clone();
+            let answer = paper_bytes(example.answer);
+            expected[..answer.len()].copy_from_slice(&answer);
+            let report = (implementation.recover)(&longer, &mut area);
+            let name = format!("{} by {}", example.name, implementation.name);
+            assert_eq!((report, area), (example.report, expected), "{name}");
+        }
+        count += 1;
+    }
+    assert_eq!(count, EXAMPLES.len() + REFUSALS.len() - 2);
+}
+
+/// Each of the twelve flags alone, with H1's job.
+#[test]
+fn every_flag_is_refused() {
+    for flag in 0..12 {
+        let mut job = paper_bytes(LONGER[0].job);
+        job[5] |= (1u16 << flag).to_be_bytes()[0];
+        job[6] |= (1u16 << flag).to_be_bytes()[1];
+        for implementation in implementations() {
+            let report = (implementation.recover)(&job, &mut [0; 8]);
+            let name = format!("{flag} by {}", implementation.name);
+            assert_eq!(report, Report::refused(11, 0), "{name}");
+        }
+    }
+}
+
+#[test]
 fn an_empty_job_and_an_empty_area() {
     for implementation in implementations() {
         assert_eq!(
@@ -61,12 +121,49 @@ fn an_empty_job_and_an_empty_area() {
     }
 }
 
+/// The job with the bounds 2, 0 and 1 is a trial job of its own answer: its points are 0 to 3, and no row is spoiled. Its
+/// header has 7 bytes and its coefficients 16.
+#[test]
+fn the_example_of_bounds_is_a_trial_job() {
+    let (job, answer) = (paper_bytes(LONGER[1].job), paper_bytes(LONGER[1].answer));
+    let surplus = [&answer[4..], &[0, 0]].concat();
+    for writer in writers() {
+        let refusal = |header: &[u8], coefficients: &[u8], area_length: usize| {
+            let mut area = vec![0xA5; area_length];
+            let written = (writer.trial)(header, coefficients, 0, 0, &mut area);
+            assert!(written.is_written() || area == vec![0xA5; area_length]);
+            written.refusal
+        };
+        let mut area = vec![0xA5; job.len() + 2];
+        let written = (writer.trial)(&job[..7], &answer[4..], 0, 0, &mut area);
+        assert_eq!(written, Written::bytes(39), "{}", writer.name);
+        assert_eq!(area, [&job[..], &[0xA5; 2]].concat(), "{}", writer.name);
+        for length in 0..7 {
+            assert_eq!(
+                refusal(&job[..length], &answer[4..], 39),
+                1,
+                "{}",
+                writer.name
+            );
+        }
+        let mut flagged = job[..8].to_vec();
+        flagged[6] = 1;
+        assert_eq!(refusal(&flagged[..7], &answer[4..], 39), 11);
+        assert_eq!(refusal(&flagged, &surplus, 0), 11);
+        assert_eq!(refusal(&job[..8], &answer[4..], 39), 3);
+        assert_eq!(refusal(&job[..7], &surplus, 39), 3);
+        assert_eq!(refusal(&job[..7], &answer[6..], 39), 3);
+        assert_eq!(refusal(&job[..7], &answer[4..], 38), 7);
+    }
+}
+
 fn paper_bytes(text: &str) -> Vec<u8> {
     hex::bytes(text).expect("the paper's bytes")
 }
 
 fn example(name: &str) -> &'static Example {
-    let found = EXAMPLES.iter().find(|example| example.name == name);
+    let mut all = EXAMPLES.iter().chain(&LONGER);
+    let found = all.find(|example| example.name == name);
     found.expect("an example")
 }
 
@@ -74,7 +171,8 @@ fn example(name: &str) -> &'static Example {
 #[test]
 fn the_answers_of_the_examples_are_judged() {
     for judge in judges() {
-        let answered = EXAMPLES.iter().filter(|each| !each.answer.is_empty());
+        let all = EXAMPLES.iter().chain(&LONGER);
+        let answered = all.filter(|each| !each.answer.is_empty());
         for example in answered {
             let name = format!("{} by {}", example.name, judge.name);
             let (job, answer) = (paper_bytes(example.job), paper_bytes(example.answer));
@@ -95,16 +193,37 @@ fn the_answers_of_the_examples_are_judged() {
     }
 }
 
-/// Refusals 1 to 6 are the job's, whatever is offered; 7 and 8 do not occur.
+/// With df + 1 coefficients of each f, as under the short header, an answer has too many bytes; without f2's one too few.
+#[test]
+fn an_answer_has_each_outputs_own_bound() {
+    let job = paper_bytes(example("bounds 2, 0, 1").job);
+    for offered in [
+        "00000000 0001 0001 0001 0000 0001 0003 0000 0000 0000 0002 0000",
+        "00000000 0001 0001 0001 0000 0001 0003 0000 0002 0000",
+        "00000000 0001 0001 0001 0000 0001 0000 0002",
+    ] {
+        for judge in judges() {
+            let judged = (judge.judge)(&job, &paper_bytes(offered));
+            assert_eq!(judged, Judgement::refused(3, 0), "{}", judge.name);
+        }
+    }
+}
+
+/// Refusals 1, 11 and 3 to 6 are the job's, whatever is offered; 7 and 8 do not occur.
 #[test]
 fn the_refusals_of_the_table_are_those_of_a_judgement() {
     for judge in judges() {
-        for example in REFUSALS.iter().chain([example("H11")]) {
+        let all = REFUSALS.iter().chain([example("H11")]);
+        for example in all.chain(&LONGER_REFUSALS) {
             let (job, report) = (paper_bytes(example.job), example.report);
-            for length in [0, 7, 8, 9, 254] {
+            let needed = match example.name {
+                "7 by each bound" => 12,
+                _ => 8,
+            };
+            for length in [0, 7, 8, 9, 12, 14, 254] {
                 let judged = (judge.judge)(&job, &vec![0; length]);
                 let expected = match (report.refusal, length) {
-                    (7 | 8, 8) => Judgement::judged(false),
+                    (7 | 8, length) if length == needed => Judgement::judged(false),
                     (7 | 8, _) => Judgement::refused(3, 0),
                     (number, _) => Judgement::refused(number, report.row),
                 };
@@ -116,14 +235,15 @@ fn the_refusals_of_the_table_are_those_of_a_judgement() {
     }
 }
 
-/// Refusals 1 to 6 are found by a check of the form alone; other jobs of the paper have theirs.
+/// Refusals 1, 11 and 3 to 6 are found by a check of the form alone; other jobs have theirs.
 #[test]
 fn the_form_of_each_example_is_checked() {
     for checker in checkers() {
-        for example in EXAMPLES.iter().chain(&REFUSALS) {
+        let longer = LONGER.iter().chain(&LONGER_REFUSALS);
+        for example in EXAMPLES.iter().chain(&REFUSALS).chain(longer) {
             let expected = match example.report {
                 Report {
-                    refusal: number @ 1..=6,
+                    refusal: number @ (1..=6 | 11),
                     row,
                     ..
                 } => Form::refused(number, row),
@@ -148,6 +268,11 @@ fn the_printed_text_of_the_second_solver() {
     assert_eq!(printed("H8"), "recovered 0\nwrong\ng 1 1\nf1 1\nf2 0 1\n");
     assert_eq!(printed("H11"), "refused 5 0\n");
     assert_eq!(second::printed(&[]), "refused 1 0\n");
+    assert_eq!(printed("H1 longer"), H1_PRINTED);
+    assert_eq!(printed("bounds 2, 0, 1"), BOUNDS_PRINTED);
+    assert_eq!(printed("bounds 1, 0"), "refused 8 0\n");
     assert_eq!(second::printed(&[0; 314]), "refused 3 0\n");
-    assert_eq!(second::printed(&[1; 400]), "refused 2 0\n");
+    assert_eq!(second::printed(&[0; 318]), "refused 3 0\n");
+    assert_eq!(second::printed(&[1; 6]), "refused 1 0\n");
+    assert_eq!(second::printed(&[1; 400]), "refused 11 0\n");
 }

@@ -3,7 +3,10 @@
 
 use hanthuvelo::hex;
 use outside_checks::jobs::{generate, Random};
-use outside_checks::paper::{EXAMPLES, H1_PRINTED, REFUSALS};
+use outside_checks::layout::HeaderForm;
+use outside_checks::paper::{
+    BOUNDS_PRINTED, EXAMPLES, H1_PRINTED, LONGER, LONGER_REFUSALS, REFUSALS,
+};
 use outside_checks::program::{run, run_redirected, run_unread};
 use outside_checks::second::printed;
 use std::os::unix::process::ExitStatusExt;
@@ -28,11 +31,19 @@ fn compare(pieces: &[&[u8]]) -> String {
 
 #[test]
 fn the_papers_examples() {
-    for example in EXAMPLES.iter().chain(&REFUSALS) {
+    let longer = LONGER.iter().chain(&LONGER_REFUSALS);
+    for example in EXAMPLES.iter().chain(&REFUSALS).chain(longer) {
         compare(&[&hex::bytes(example.job).expect("the paper's job")]);
     }
-    let h1 = hex::bytes(EXAMPLES[0].job).expect("the paper's job");
-    assert_eq!(compare(&[&h1]), H1_PRINTED);
+    let printed = [
+        (&EXAMPLES[0], H1_PRINTED),
+        (&LONGER[0], H1_PRINTED),
+        (&LONGER[1], BOUNDS_PRINTED),
+    ];
+    for (example, text) in printed {
+        let job = hex::bytes(example.job).expect("an example's job");
+        assert_eq!(compare(&[&job]), text);
+    }
 }
 
 #[test]
@@ -102,25 +113,34 @@ fn input_in_pieces() {
     }
 }
 
+/// The program reads 318 bytes; with one byte more than the longest job it tests the refusals on those.
 #[test]
 fn inputs_around_the_longest() {
-    let job = generate_longest();
-    assert_eq!(job.len(), 313);
-    assert!(compare(&[&job]).starts_with("re"));
-    for surplus in [1, 2, 100, 5000, 200_000] {
-        let mut longer = job.clone();
-        longer.resize(313 + surplus, 0);
-        assert_eq!(compare(&[&longer]), "refused 3 0\n");
-        longer[2] |= 1;
-        assert_eq!(compare(&[&longer]), "refused 2 0\n");
-        compare(&[&longer[..300], &longer[300..]]);
+    for form in HeaderForm::ALL {
+        let job = generate_longest(form);
+        let length = 310 + form.length();
+        assert_eq!(job.len(), length);
+        assert!(compare(&[&job]).starts_with("re"));
+        for surplus in [1, 2, 3, 4, 5, 6, 100, 5000, 200_000] {
+            let mut longer = job.clone();
+            longer.resize(length + surplus, 0);
+            assert_eq!(compare(&[&longer]), "refused 3 0\n");
+            // A flag, in the first row where the spare bit was 0: refused with 2 by paper 01.
+            longer[2] |= 1;
+            longer[6] |= 1;
+            assert_eq!(compare(&[&longer]), "refused 11 0\n");
+            compare(&[&longer[..300], &longer[300..]]);
+        }
     }
 }
 
-/// A job of 31 rows with four outputs.
-fn generate_longest() -> Vec<u8> {
-    (0..)
-        .map(|index| generate(SEED, index).bytes)
-        .find(|job| job.len() == 313)
-        .expect("a job")
+/// A job of 31 rows with four outputs under a header of this form.
+fn generate_longest(form: HeaderForm) -> Vec<u8> {
+    let jobs = (0..).map(|index| generate(SEED, index).bytes);
+    let is_longest = |job: &Vec<u8>| {
+        job.len() == 310 + form.length()
+            && HeaderForm::of(job) == form
+            && printed(job) != "refused 3 0\n"
+    };
+    jobs.into_iter().find(is_longest).expect("a job")
 }

@@ -6,7 +6,7 @@
 use hanthuvelo::{hex, Report, Written};
 use outside_checks::definition::{for_each_list, is_reduced};
 use outside_checks::jobs::trial::{generate, Tally, TrialCall};
-use outside_checks::layout::{is_right, row_bit, trimmed, value_at, Answer, Job, Row};
+use outside_checks::layout::{is_right, row_bit, trimmed, value_at, Answer, HeaderForm, Job, Row};
 use outside_checks::second::{trial_job, TrialJob};
 use outside_checks::{conclude, expect_repeatable, implementations, setting, show, writers};
 
@@ -96,20 +96,22 @@ fn the_generator_repeats_itself() {
     expect_repeatable(SEED, |seed, index| generate(seed, index).describe());
 }
 
-/// A trial modulo 7 with E = 0 and no row more than needed.
-fn small_job(outputs: usize, df: usize, dg: usize) -> Job {
+/// A trial modulo 7 with these bounds, E = 0 and no row more than needed.
+fn small_job(numerator_bounds: &[usize], dg: usize) -> Job {
     let row = |point| Row {
         point,
-        values: vec![0; outputs],
+        values: vec![0; numerator_bounds.len()],
     };
-    Job {
+    let mut job = Job {
+        header: HeaderForm::Longer,
         prime_code: 0,
-        outputs,
-        numerator_bound: df,
+        numerator_bounds: numerator_bounds.to_vec(),
         denominator_bound: dg,
         error_bound: 0,
-        rows: (0..=(df + dg) as u32).map(row).collect(),
-    }
+        rows: Vec::new(),
+    };
+    job.rows = (0..job.needed_rows() as u32).map(row).collect();
+    job
 }
 
 /// Paper 01's "reduced", by trying every divisor.
@@ -127,7 +129,7 @@ fn compare_small(job: &Job, denominator: &[u32], numerators: &[Vec<u32>]) -> boo
         numerators: numerators.to_vec(),
     };
     let coefficients = &listed.pack(job)[4..];
-    let header = &job.pack()[..3];
+    let header = &job.packed_header();
     let is_reduced = is_reduced_by_definition(denominator, numerators);
     for writer in writers() {
         let mut area = vec![0xA5; job.pack().len()];
@@ -138,7 +140,9 @@ fn compare_small(job: &Job, denominator: &[u32], numerators: &[Vec<u32>]) -> boo
             continue;
         }
         assert_eq!(written, Written::bytes(area.len() as u32), "{}", describe());
-        let rows = area[3..].chunks(2 * (1 + job.outputs)).enumerate();
+        assert!(area.starts_with(header), "{}", describe());
+        let rows = area[header.len()..].chunks(2 * (1 + job.outputs()));
+        let rows = rows.enumerate();
         for (place, bytes) in rows {
             let number = |pair: &[u8]| u32::from(pair[0]) * 256 + u32::from(pair[1]);
             let numbers: Vec<u32> = bytes.chunks(2).map(number).collect();
@@ -161,22 +165,34 @@ fn compare_small(job: &Job, denominator: &[u32], numerators: &[Vec<u32>]) -> boo
 #[test]
 fn all_polynomials_of_the_smallest_trials() {
     let (mut reduced, mut other) = (0, 0);
-    // Outputs, df, dg.
-    for (outputs, df, dg) in [(1, 0, 0), (1, 1, 1), (1, 2, 2), (2, 1, 1), (3, 0, 1)] {
-        let job = small_job(outputs, df, dg);
-        let count = dg + 1 + outputs * (df + 1);
+    // The bound of each f, dg.
+    let bounds: [(&[usize], usize); 8] = [
+        (&[0], 0),
+        (&[1], 1),
+        (&[2], 2),
+        (&[1, 1], 1),
+        (&[0, 0, 0], 1),
+        (&[1, 0], 1),
+        (&[0, 2], 1),
+        (&[1, 0, 1], 0),
+    ];
+    for (bounds, dg) in bounds {
+        let job = small_job(bounds, dg);
+        let count = dg + 1 + bounds.iter().map(|bound| bound + 1).sum::<usize>();
         for_each_list(count, 7, &mut |coefficients| {
             let (denominator, numerators) = coefficients.split_at(dg + 1);
             let numerators: Vec<Vec<u32>> =
-                numerators.chunks(df + 1).map(<[u32]>::to_vec).collect();
-            match compare_small(&job, denominator, &numerators) {
-                true => reduced += 1,
-                false => other += 1,
+                job.numerators_in(numerators).map(<[u32]>::to_vec).collect();
+            for &form in job.headers() {
+                match compare_small(&job.under(form), denominator, &numerators) {
+                    true => reduced += 1,
+                    false => other += 1,
+                }
             }
         });
     }
     show(&format!(
         "all polynomials of the smallest trials: {reduced} reduced, {other} not\n"
     ));
-    assert!(reduced > 30_000 && other > 200_000);
+    assert!(reduced > 60_000 && other > 400_000);
 }

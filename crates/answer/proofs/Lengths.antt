@@ -6,7 +6,7 @@ use native.Mathlib.Nat.{le-refl}
 use native.Mathlib.Omega.{arith}
 use lib.ListN.{length, getD, length-append}
 use Rattle.format.specs.declared.Bounds.{Bounds}
-use Rattle.format.specs.Bounds.{numeratorBoundOf, answerLengthOf}
+use Rattle.format.specs.Bounds.{numeratorBoundOf, numeratorCount, answerLengthOf}
 use Rattle.answer.specs.Bytes.{twoBytes, fourBytes, coefficientBytes, outputBytes, answerBytes, numeratorStart}
 
 pub length-coefficients : (a : List ℕ) (count : ℕ) → length (coefficientBytes a count) ≡ 2 * count
@@ -35,8 +35,8 @@ output-within b f i n h =
     let e : n ≡ suc i + (n - suc i) = omega arith in
     rw e (omega (arith, length-output b f i, outputs-rising b f (suc i) (n - suc i)))
 
-length-outputs : (b : Bounds) (f : ℕ → List ℕ) (n : ℕ) → length (outputBytes b f n) ≡ 2 * (n * (b .df + 1))
-unfolding outputBytes
+length-outputs : (b : Bounds) (f : ℕ → List ℕ) (n : ℕ) → length (outputBytes b f n) ≡ 2 * numeratorCount b n
+unfolding outputBytes numeratorCount
 length-outputs b f zero = omega arith
 length-outputs b f (suc n) = omega (arith, length-outputs b f n, length-output b f n)
 
@@ -46,9 +46,7 @@ answer-end b f = omega (arith, length-outputs b f (b .outputs))
 
 -- where output i begins
 pub numerator-start : (b : Bounds) (f : ℕ → List ℕ) (i : ℕ) → numeratorStart b i ≡ 4 + 2 * (b .dg + 1) + length (outputBytes b f i)
-unfolding numeratorStart outputBytes
-numerator-start b f zero = omega arith
-numerator-start b f (suc i) = omega (arith, numerator-start b f i, length-output b f i)
+numerator-start b f i = omega (arith, length-outputs b f i)
 
 pub length-front : (word : ℕ) (g : List ℕ) (count : ℕ) → length (fourBytes word ++ coefficientBytes g count) ≡ 4 + 2 * count
 length-front word g count =

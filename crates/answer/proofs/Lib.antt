@@ -1,4 +1,5 @@
 pub mod Splices
+pub mod Copies
 pub mod Lengths
 pub mod Runs
 pub mod Reading

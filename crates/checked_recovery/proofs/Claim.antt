@@ -28,7 +28,7 @@ module _ (s : List ℕ) {c : FormReport} (C : c ≡ formReportOf (formOutcomeOf 
   reported : {o : Outcome} → formOutcomeOf s ≡ o → c ≡ formReportOf o
   reported e = C ∙ ap formReportOf e
 
-  -- a job that one of tests 1 to 6 refuses
+  -- a job that a test before 7 refuses
   early : {o : Outcome} → (o ≡ Accepted → ⊥) → outcomeOf s (length area) ≡ o → (r ≡ reportOf o) × (after ≡ area)
   early {o} not e = by (S .cases)
     where

@@ -11,7 +11,7 @@ use lib.ListN.{length}
 use Rattle.lists.proofs.Order.{lt-or-ge}
 use Rattle.lists.proofs.Tabulated.{length-tabulate, at-tabulate-all}
 use Rattle.format.specs.declared.Bounds.{Bounds}
-use Rattle.format.specs.Bounds.{primeOf, numeratorBoundOf, Storable}
+use Rattle.format.specs.Bounds.{primeOf, numeratorBoundOf, numeratorCount, Storable}
 use Rattle.format.specs.Numbers.{numberFrom}
 use Rattle.field.proofs.Moduli.{modulus-positive}
 use Rattle.row_search.specs.Search.{isFound}
@@ -19,7 +19,7 @@ use Rattle.row_search.proofs.FirstBelow.{any-passes, none-below}
 use Rattle.poly.specs.Coefficients.{at, Bounded, Stored}
 use Rattle.answer.specs.Bytes.{numeratorStart}
 use Rattle.coefficients.specs.Coefficients.{coefficientLengthOf, polynomialFrom, denominatorOf, numeratorOf, anyTooLarge}
-use Rattle.coefficients.proofs.Places.{start-is, start-next, ends-within}
+use Rattle.coefficients.proofs.Places.{start-first, start-next, ends-within}
 
 pub polynomial-size : (s : List ℕ) (from count : ℕ) → length (polynomialFrom s from count) ≡ 32
 unfolding polynomialFrom
@@ -52,8 +52,8 @@ module _ (b : Bounds) (storable : Storable b) (s : List ℕ) (size : length s �
   denominator-fits : b .dg + 1 ≤ 32
   denominator-fits = let l = storable .denominator-low in omega arith
 
-  numerator-fits : (i : ℕ) → numeratorBoundOf b i + 1 ≤ 32
-  numerator-fits i = let n = storable .numerators-low i in omega arith
+  numerator-fits : (i : ℕ) → i < b .outputs → numeratorBoundOf b i + 1 ≤ 32
+  numerator-fits i l = let n = storable .numerators-low i l in omega arith
 
   module _ (low : (k : ℕ) → k < length s / 2 → numberFrom s (2 * k) < primeOf b) where
     -- coefficients from number m on
@@ -68,9 +68,8 @@ module _ (b : Bounds) (storable : Storable b) (s : List ℕ) (size : length s �
 
     pub numerator-bounded : (i : ℕ) → i < b .outputs → Bounded (primeOf b) (numeratorBoundOf b i + 1) (numeratorOf b s i)
     numerator-bounded i l =
-        let start = start-is b i in
-        let m = (b .dg + 1) + i * (b .df + 1) in
-        polynomial-bounded s (numeratorStart b i - 4) (numeratorBoundOf b i + 1) (numerator-fits i) (modulus-positive (b .prime))
+        let m = (b .dg + 1) + numeratorCount b i in
+        polynomial-bounded s (numeratorStart b i - 4) (numeratorBoundOf b i + 1) (numerator-fits i l) (modulus-positive (b .prime))
         (low-from m (numeratorStart b i - 4) (numeratorBoundOf b i + 1) (omega arith) (omega (arith, ends-within b i l)))
 
     -- as arrays of 32 coefficients
@@ -86,19 +85,19 @@ module _ (b : Bounds) (storable : Storable b) (s : List ℕ) (size : length s �
     low-before : (i : ℕ) → i ≤ b .outputs → (k : ℕ) → 4 + 2 * k < numeratorStart b i → numberFrom s (2 * k) < primeOf b
     low-before zero n k l =
         let place : 2 * k ≡ 0 + 2 * k = omega arith in
-        rw (place, ← coefficient-at s 0 (b .dg + 1) denominator-fits k (omega (arith, start-is b 0))) (low-g k)
+        rw (place, ← coefficient-at s 0 (b .dg + 1) denominator-fits k (omega (arith, start-first b))) (low-g k)
     low-before (suc i) n k l = by (low-before i (omega arith) k) (lt-or-ge (4 + 2 * k) (numeratorStart b i))
       where
         by : (4 + 2 * k < numeratorStart b i → numberFrom s (2 * k) < primeOf b) → (4 + 2 * k < numeratorStart b i) ⊎ (numeratorStart b i ≤ 4 + 2 * k)
             → numberFrom s (2 * k) < primeOf b
         by earlier (inl before) = earlier before
         by earlier (inr here) =
-            let m = (b .dg + 1) + i * (b .df + 1) in
-            let place : 2 * k ≡ numeratorStart b i - 4 + 2 * (k - m) = omega (arith, start-is b i) in
-            let number = coefficient-at s (numeratorStart b i - 4) (numeratorBoundOf b i + 1) (numerator-fits i) (k - m) (omega (arith, start-is b i, start-next b i)) in
+            let m = (b .dg + 1) + numeratorCount b i in
+            let place : 2 * k ≡ numeratorStart b i - 4 + 2 * (k - m) = omega arith in
+            let number = coefficient-at s (numeratorStart b i - 4) (numeratorBoundOf b i + 1) (numerator-fits i (omega arith)) (k - m) (omega (arith, start-next b i)) in
             rw (place, ← number) (low-f i (omega arith) (k - m))
 
     pub none-large : anyTooLarge b s ≡ false
     none-large =
         ap isFound (none-below (λ k. leb (primeOf b) (numberFrom s (2 * k))) (length s / 2)
-        (λ k l. lt-leb _ _ (low-before (b .outputs) (omega arith) k (omega (arith, start-is b (b .outputs))))))
+        (λ k l. lt-leb _ _ (low-before (b .outputs) (omega arith) k (omega arith))))

@@ -9,7 +9,7 @@ use Rattle.format.specs.declared.Bounds.{Bounds}
 use Rattle.format.specs.Bounds.{numeratorBoundOf, Storable}
 use Rattle.answer.specs.Bytes.{twoBytes, coefficientBytes, outputBytes, numeratorStart}
 use Rattle.coefficients.specs.Coefficients.{coefficientLengthOf, polynomialFrom, denominatorOf, numeratorOf}
-use Rattle.coefficients.proofs.Places.{start-is, start-next, ends-within}
+use Rattle.coefficients.proofs.Places.{start-first, start-next, ends-within}
 use Rattle.coefficients.proofs.Ranges.{coefficient-at}
 
 -- every element is a byte
@@ -42,16 +42,15 @@ module _ (s : List ℕ) (bytes : Bytes s) where
     outputs-written : (i : ℕ) → i ≤ b .outputs → outputBytes b (numeratorOf b s) i ≡ take (numeratorStart b i - (4 + 2 * (b .dg + 1))) (drop (2 * (b .dg + 1)) s)
     unfolding outputBytes
     outputs-written zero l =
-        let none : numeratorStart b 0 - (4 + 2 * (b .dg + 1)) ≡ 0 = omega (arith, start-is b 0) in
+        let none : numeratorStart b 0 - (4 + 2 * (b .dg + 1)) ≡ 0 = omega (arith, start-first b) in
         ap (λ n. take n (drop (2 * (b .dg + 1)) s)) (sym none)
     outputs-written (suc i) l =
         let count = numeratorBoundOf b i + 1 in
-        let start = start-is b i in
         let front = 2 * (b .dg + 1) in
         let length-before = numeratorStart b i - (4 + front) in
         let place : front + length-before ≡ numeratorStart b i - 4 = omega arith in
         let longer : length-before + 2 * count ≡ numeratorStart b (suc i) - (4 + front) = omega (arith, start-next b i) in
-        let last = run-written (numeratorStart b i - 4) count (let n = storable .numerators-low i in omega arith) (omega (arith, ends-within b i l)) count (omega arith) in
+        let last = run-written (numeratorStart b i - 4) count (let n = storable .numerators-low i l in omega arith) (omega (arith, ends-within b i l)) count (omega arith) in
         ap₂ _++_ (outputs-written i (omega arith)) (last ∙ ap (λ j. take (2 * count) (drop j s)) (sym place) ∙ ap (take (2 * count)) (sym (drop-drop length-before front s)))
         ∙ sym (take-add length-before (2 * count) (drop front s)) ∙ ap (λ n. take n (drop front s)) longer
 
@@ -59,6 +58,5 @@ module _ (s : List ℕ) (bytes : Bytes s) where
     coefficients-written =
         let front = 2 * (b .dg + 1) in
         let rest = numeratorStart b (b .outputs) - (4 + front) in
-        let last = start-is b (b .outputs) in
         ap₂ _++_ (run-written 0 (b .dg + 1) (let l = storable .denominator-low in omega arith) (omega arith) (b .dg + 1) (omega arith)) (outputs-written (b .outputs) (omega arith))
         ∙ sym (take-add front rest s) ∙ take-all (front + rest) s (omega arith)

@@ -11,7 +11,7 @@ use Rattle.format.specs.Numbers.{numberFrom}
 use Rattle.row_search.specs.Search.{anyBelow}
 use Rattle.answer.specs.Bytes.{numeratorStart}
 
--- how many bytes they take: an answer's less the word's four, so 2 ((dg + 1) + n (df + 1))
+-- how many bytes they take: an answer's less the word's four, so 2 ((dg + 1) + the sum of each output's bound plus 1)
 abbrev pub coefficientLengthOf : Bounds → ℕ
 coefficientLengthOf b = answerLengthOf b - 4
 
@@ -23,7 +23,7 @@ polynomialFrom s from count = tabulate 32 (λ k. cond (ltb k count) (numberFrom 
 abbrev pub denominatorOf : Bounds → List ℕ → List ℕ
 denominatorOf b s = polynomialFrom s 0 (b .dg + 1)
 
--- the numerator of output i, counted from 0: df + 1 coefficients, where an answer has them but for the word
+-- the numerator of output i, counted from 0: its own bound plus 1 coefficients, where an answer has them but for the word
 abbrev pub numeratorOf : Bounds → List ℕ → ℕ → List ℕ
 numeratorOf b s i = polynomialFrom s (numeratorStart b i - 4) (numeratorBoundOf b i + 1)
 

@@ -1,12 +1,13 @@
--- Paper 01, "The job sheet": the header's 24 bits, most significant bit first.
-use Prim.Native.Nat.{ℕ, _+_, _-_, _*_, _/_, _%_, _^_}
+-- Paper 01, "The job sheet": "Fields are packed, most significant bit first." s holds bytes, as many as there are.
+use Prim.Native.Nat.{ℕ, zero, suc, _+_, _-_, _*_, _/_, _%_, _^_}
 use mathlib.Core.List.{List}
 use lib.ListN.{getD}
 
--- the 24 bits as one number
-unfoldable pub headerOf : List ℕ → ℕ
-headerOf s = getD s 0 0 * 65536 + getD s 1 0 * 256 + getD s 2 0
+-- the bit at a place, counted from the top of the first byte
+abbrev pub bitOf : List ℕ → ℕ → ℕ
+bitOf s k = getD s (k / 8) 0 / 2 ^ (7 - k % 8) % 2
 
--- the number that so many bits from place `at` on make, places counted from the top
-abbrev pub fieldOf : List ℕ → ℕ → ℕ → ℕ
-fieldOf s at bits = headerOf s / 2 ^ (24 - (at + bits)) % 2 ^ bits
+-- the number that so many bits from place `at` on make
+unfoldable pub fieldOf : List ℕ → (at bits : ℕ) → ℕ
+fieldOf s at zero = 0
+fieldOf s at (suc bits) = 2 * fieldOf s at bits + bitOf s (at + bits)

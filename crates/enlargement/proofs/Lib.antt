@@ -3,3 +3,4 @@ pub mod RowBytes
 pub mod Counting
 pub mod Enlarging
 pub mod Rule
+pub mod Pair

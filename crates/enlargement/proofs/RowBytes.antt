@@ -12,7 +12,7 @@ use Rattle.lists.proofs.Truth.{clash}
 use Rattle.format.specs.Numbers.{numberFrom}
 use Rattle.format.specs.Bounds.{primeOf}
 use Rattle.field.specs.Primes.{modulusOf}
-use Rattle.header.specs.Header.{boundsOf}
+use Rattle.header.specs.Header.{headerLengthOf, boundsOf}
 use Rattle.rows.specs.Rows.{numberAt, jobPoint, jobValue}
 use Rattle.problem.specs.Rows.{wrongRow}
 use Rattle.problem.specs.Answers.{wrongAt}
@@ -41,14 +41,17 @@ equal-bytes l m e = subst (λ t. sameBytes l t ≡ true) e (itself l)
 in-row : (s : List ℕ) (i c : ℕ) → c ≤ boundsOf s .outputs → numberAt s i c ≡ numberFrom (rowBytes s i) (2 * c)
 unfolding numberAt rowBytes
 in-row s i c l =
-    let high : 3 + 2 * (i * (1 + n)) + 2 * c ≡ 3 + 2 * (i * (1 + n) + c) = omega arith in
-    let low : 3 + 2 * (i * (1 + n)) + (2 * c + 1) ≡ 3 + 2 * (i * (1 + n) + c) + 1 = omega arith in
+    let high : start + 2 * (i * (1 + n)) + 2 * c ≡ start + 2 * (i * (1 + n) + c) = omega arith in
+    let low : start + 2 * (i * (1 + n)) + (2 * c + 1) ≡ start + 2 * (i * (1 + n) + c) + 1 = omega arith in
     sym (ap₂ (λ x y. x * 256 + y) (byte (2 * c) (omega arith) ∙ ap (λ k. getD s k 0) high) (byte (2 * c + 1) (omega arith) ∙ ap (λ k. getD s k 0) low))
   where
     n : ℕ
     n = boundsOf s .outputs
 
-    byte : (k : ℕ) → k < 2 * (1 + n) → getD (take (2 * (1 + n)) (drop (3 + 2 * (i * (1 + n))) s)) k 0 ≡ getD s (3 + 2 * (i * (1 + n)) + k) 0
+    start : ℕ
+    start = headerLengthOf s
+
+    byte : (k : ℕ) → k < 2 * (1 + n) → getD (take (2 * (1 + n)) (drop (start + 2 * (i * (1 + n))) s)) k 0 ≡ getD s (start + 2 * (i * (1 + n)) + k) 0
     byte k h = getD-take _ _ k 0 h ∙ getD-drop _ s k 0
 
 module _ (s s' : List ℕ) (outputs : boundsOf s' .outputs ≡ boundsOf s .outputs) where

@@ -35,6 +35,9 @@ module _ {s area : List ℕ} {r : Report} {after : List ℕ} (S : Settled s area
   W' : WellFormedFacts s' (length area')
   W' = well-formed-facts s' (length area') (C .well-formed)
 
+  same-outputs : boundsOf s' .outputs ≡ boundsOf s .outputs
+  same-outputs = C .outputs
+
   same-prime : primeOf (boundsOf s') ≡ primeOf (boundsOf s)
   same-prime = ap modulusOf (C .prime)
 
@@ -52,14 +55,14 @@ module _ {s area : List ℕ} {r : Report} {after : List ℕ} (S : Settled s area
   }
     where
       lower : (i : ℕ) → i < boundsOf s' .outputs → i < boundsOf s .outputs
-      lower i l = let e = C .outputs in omega arith
+      lower i l = let e = same-outputs in omega arith
 
   reduced : Reduced (primeOf (boundsOf s')) (boundsOf s' .outputs) f g
-  reduced = subst (λ n. Reduced (primeOf (boundsOf s')) n f g) (sym (C .outputs)) (subst (λ p. Reduced p (boundsOf s .outputs) f g) (sym same-prime) (N .answer .reduced))
+  reduced = subst (λ n. Reduced (primeOf (boundsOf s')) n f g) (sym same-outputs) (subst (λ p. Reduced p (boundsOf s .outputs) f g) (sym same-prime) (N .answer .reduced))
 
   -- k + w
   together : wrongCount s' f g ≡ k + furtherWrong s s' f g
-  together = let e = wrong-adds s s' W W' (C .prime) (C .outputs) f g (C .holds) in let c = N .count in omega arith
+  together = let e = wrong-adds s s' W W' (C .prime) same-outputs f g (C .holds) in let c = N .count in omega arith
 
   exactly : ((c : ℕ) × AnsweredWith s' r' after' f g c) ↔ (k + furtherWrong s s' f g ≤ boundsOf s' .errors)
   exactly = (
@@ -91,18 +94,18 @@ module _ {s area : List ℕ} {r : Report} {after : List ℕ} (S : Settled s area
 
     marked-wrong : MarkedAt s after s' f g j → wrongAt s' f g j ≡ true
     marked-wrong (inl t) =
-        sym (same-wrong s s' (C .outputs) (C .prime) f g (t .0) j (t .2))
+        sym (same-wrong s s' same-outputs (C .prime) f g (t .0) j (t .2))
         ∙ bit (t .0) (let l = t .1 in let n = W .fields .rows-most in omega arith) .0 (t .3) .1
     marked-wrong (inr t) = t .1
 
     wrong-marked : wrongAt s' f g j ≡ true → MarkedAt s after s' f g j
-    wrong-marked e = by (old-or-new s s' W W' (C .prime) (C .outputs) f g (C .holds) j)
+    wrong-marked e = by (old-or-new s s' W W' (C .prime) same-outputs f g (C .holds) j)
       where
         by : ((i : ℕ) × (i < boundsOf s .rows) × StandsAt s i s' j) ⊎ (furtherRow s s' j ≡ true) → MarkedAt s after s' f g j
         by (inl t) =
             let l = t .1 in
             let n = W .fields .rows-most in
-            inl (t .0, t .1, t .2, bit (t .0) (omega arith) .1 (t .1, same-wrong s s' (C .outputs) (C .prime) f g (t .0) j (t .2) ∙ e))
+            inl (t .0, t .1, t .2, bit (t .0) (omega arith) .1 (t .1, same-wrong s s' same-outputs (C .prime) f g (t .0) j (t .2) ∙ e))
         by (inr h) = inr (h, e)
 
     ones : j < boundsOf s' .rows → MarkedAt s after s' f g j → bitAt (wordFrom after') j ≡ 1

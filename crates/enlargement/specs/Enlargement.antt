@@ -12,7 +12,7 @@ use Rattle.format.specs.declared.Report.{Report}
 use Rattle.format.specs.Bounds.{numeratorBoundOf}
 use Rattle.poly.specs.Coefficients.{at}
 use Rattle.row_search.specs.Search.{anyBelow}
-use Rattle.header.specs.Header.{boundsOf}
+use Rattle.header.specs.Header.{headerLengthOf, boundsOf}
 use Rattle.job.specs.Refusals.{WellFormed}
 use Rattle.word.specs.Word.{bitAt, countBelow}
 use Rattle.answer.specs.Bytes.{numeratorStart}
@@ -50,7 +50,7 @@ AnsweredExactly s area r after = (f : ℕ → List ℕ) (g : List ℕ) (k : ℕ)
 
 -- the bytes of row i
 unfoldable pub rowBytes : List ℕ → ℕ → List ℕ
-rowBytes s i = take (2 * (1 + boundsOf s .outputs)) (drop (3 + 2 * (i * (1 + boundsOf s .outputs))) s)
+rowBytes s i = take (2 * (1 + boundsOf s .outputs)) (drop (headerLengthOf s + 2 * (i * (1 + boundsOf s .outputs))) s)
 
 -- row i of T stands in T' at place j: "one of its rows has the same bytes"
 abbrev pub StandsAt : List ℕ → ℕ → List ℕ → ℕ → Type 0

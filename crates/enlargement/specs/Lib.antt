@@ -1,1 +1,2 @@
 pub mod Enlargement
+pub mod Pair

@@ -1,4 +1,4 @@
-// Paper 02, item 4: jobs checked for form only. Whether one of tests 1 to 6 refuses a job, without an answer area, and with no more of its rows
+// Paper 02, item 4: jobs checked for form only. Whether one of tests 1, 11 and 3 to 6 refuses a job, without an answer area, and with no more of its rows
 // kept than their points.
 ghost use Prim.Native.Nat.{ℕ, _+_, _*_, _<_, _≤_};
 ghost use mathlib.Core.Bool.{_||_};
@@ -7,17 +7,17 @@ ghost use lib.Dec.{leb};
 ghost use lib.ListN.{length, getD};
 ghost use Rattle.field.specs.Primes.{modulusOf};
 ghost use Rattle.format.specs.declared.Outcome.the-variants.{Accepted};
-ghost use Rattle.header.specs.Header.{boundsOf, jobLengthOf, Narrow};
+ghost use Rattle.header.specs.Header.{headerLengthOf, boundsOf, headerOf, jobLengthOf, NarrowHeader};
 ghost use Rattle.job.specs.Refusals.{outOfRange};
 ghost use Rattle.job.specs.Form.{rowTests, formOutcomeOf};
 ghost use Rattle.row_search.specs.declared.Found.the-variants.{Nothing};
 ghost use Rattle.row_search.specs.Search.{firstBelow, anyBelow};
 ghost use Rattle.rows.specs.Rows.{jobPoint};
 ghost use Rattle.form_check.specs.Reports.{formReportOf};
-use format::Bounds;
 use format::Outcome;
 use format::Reason;
-use job::HeaderCheck;
+use header::Header;
+use header::read_header;
 use job::check_header;
 use row_search::Found;
 use row_search::first_repeated;
@@ -56,14 +56,14 @@ struct Scan {
     points: [u32; 32],
 }
 
-fn scan_rows(job: &[u8], rows: usize, outputs: usize, p: u32) -> Scan
-    requires { ⌜ (rows ≤ 31) × (outputs ≤ 4) × (length (now job) ≡ 3 + 2 * rows * (1 + outputs)) ⌝ }
-    requires { ⌜ (rows ≡ boundsOf (now job) .rows) × (outputs ≡ boundsOf (now job) .outputs) × (p ≡ modulusOf (boundsOf (now job) .prime)) ⌝ }
+fn scan_rows(job: &[u8], start: usize, rows: usize, outputs: usize, p: u32) -> Scan
+    requires { ⌜ (start ≤ 7) × (rows ≤ 31) × (outputs ≤ 4) × (length (now job) ≡ start + 2 * rows * (1 + outputs)) ⌝ }
+    requires { ⌜ (start ≡ headerLengthOf (now job)) × (rows ≡ boundsOf (now job) .rows) × (outputs ≡ boundsOf (now job) .outputs) × (p ≡ modulusOf (boundsOf (now job) .prime)) ⌝ }
     ensures { λ x. ⌜ (x .found ≡ firstBelow rows (outOfRange (now (job .entry)))) × (x .found ≡ Nothing → (r : ℕ) → r < rows → getD (x .points) r 0 ≡ jobPoint (now (job .entry)) r) ⌝ }
 {
     let mut points = [65536u32; 32];
     for r in 0..rows {
-        let row = row_at(job, r, rows, outputs);
+        let row = row_at(job, start, r, rows, outputs);
         points[r] = row.point;
         if is_out_of_range(row, p) {
             let at = r as u32;
@@ -79,15 +79,16 @@ fn scan_rows(job: &[u8], rows: usize, outputs: usize, p: u32) -> Scan
     }
 }
 
-// Tests 5 and 6, where 1 to 4 do not apply.
-fn check_rows(job: &[u8], bounds: Bounds) -> Outcome
-    requires { ⌜ (bounds ≡ boundsOf (now job)) × Narrow bounds × (length (now job) ≡ jobLengthOf bounds) ⌝ }
+// Tests 5 and 6, where the earlier ones do not apply.
+fn check_rows(job: &[u8], header: Header) -> Outcome
+    requires { ⌜ (header ≡ headerOf (now job)) × NarrowHeader header × (length (now job) ≡ jobLengthOf header) ⌝ }
     ensures { λ r. ⌜ r ≡ rowTests (now (job .entry)) Accepted ⌝ }
 {
+    let bounds = header.bounds;
     let count = bounds.rows;
     let prime = bounds.prime;
     let p = field::modulus(prime);
-    let scanned = scan_rows(job, count, bounds.outputs, p);
+    let scanned = scan_rows(job, header.length, count, bounds.outputs, p);
     let found = scanned.found;
     let points = scanned.points;
     match found {
@@ -108,15 +109,14 @@ fn check_rows(job: &[u8], bounds: Bounds) -> Outcome
     }
 }
 
-// The first of tests 1 to 6 that applies to a job, any bytes; Accepted where none does.
+// The first of tests 1, 11 and 3 to 6 that applies to a job, any bytes; Accepted where none does.
 pub fn check(job: &[u8]) -> Outcome
     ensures { λ r. ⌜ r ≡ formOutcomeOf (now (job .entry)) ⌝ }
 {
-    match check_header(job) {
-        HeaderCheck::Refused(reason) => Outcome::Refused {
-            reason: reason,
-            row: 0,
-        },
-        HeaderCheck::Passed(bounds) => check_rows(job, bounds),
-    }
+    let header = read_header(job);
+    let outcome = check_header(job.len(), header);
+    let Outcome::Accepted = outcome else {
+        return outcome;
+    };
+    check_rows(job, header)
 }

@@ -1,4 +1,4 @@
--- The refusals' numbers: 1 to 10, one for each reason.
+-- The refusals' numbers: 1 to 11, one for each reason.
 use mathlib.Core.Path.{_≡_, refl, ap, _∙_, sym}
 use mathlib.Core.List.{[], _∷_}
 use Prim.Native.Nat.{ℕ, _<_}
@@ -16,6 +16,7 @@ use Rattle.format.specs.declared.Reason.the-variants.{
   NoAnswer,
   TooManyRows,
   NotReduced,
+  AddedHeader,
 }
 use Rattle.format.specs.Outcomes.{numberOf}
 
@@ -30,11 +31,12 @@ number-positive AreaTooShort = omega arith
 number-positive NoAnswer = omega arith
 number-positive TooManyRows = omega arith
 number-positive NotReduced = omega arith
+number-positive AddedHeader = omega arith
 
 -- the reasons, each at the place of its number
 abbrev reasonAt : ℕ → Reason
 reasonAt n =
-    getD (NoAnswer ∷ TooShort ∷ SpareBit ∷ ByteCount ∷ TooFewRows ∷ OutOfRange ∷ RepeatedPoint ∷ AreaTooShort ∷ NoAnswer ∷ TooManyRows ∷ NotReduced ∷ []) n NoAnswer
+    getD (NoAnswer ∷ TooShort ∷ SpareBit ∷ ByteCount ∷ TooFewRows ∷ OutOfRange ∷ RepeatedPoint ∷ AreaTooShort ∷ NoAnswer ∷ TooManyRows ∷ NotReduced ∷ AddedHeader ∷ []) n NoAnswer
 
 reason-of-number : (reason : Reason) → reasonAt (numberOf reason) ≡ reason
 reason-of-number TooShort = refl
@@ -47,6 +49,7 @@ reason-of-number AreaTooShort = refl
 reason-of-number NoAnswer = refl
 reason-of-number TooManyRows = refl
 reason-of-number NotReduced = refl
+reason-of-number AddedHeader = refl
 
 pub number-injective : (q q' : Reason) → numberOf q ≡ numberOf q' → q ≡ q'
 number-injective q q' e = sym (reason-of-number q) ∙ ap reasonAt e ∙ reason-of-number q'

@@ -1,5 +1,8 @@
 -- What the bounds of a job say of its answer.
-use Prim.Native.Nat.{ℕ, _+_, _*_, _≤_}
+use Prim.Native.Nat.{ℕ, zero, suc, _+_, _*_, _≤_, _<_}
+use mathlib.Core.Bool.{cond}
+use lib.Dec.{ltb}
+use lib.ListN.{getD}
 use Rattle.field.specs.Primes.{modulusOf}
 use Rattle.format.specs.declared.Bounds.{Bounds}
 
@@ -7,19 +10,29 @@ use Rattle.format.specs.declared.Bounds.{Bounds}
 abbrev pub primeOf : Bounds → ℕ
 primeOf b = modulusOf (b .prime)
 
--- the degree bound of output i: paper 01's df, the same for every output
+-- the degree bound of output i, counted from 0
 abbrev pub numeratorBoundOf : Bounds → ℕ → ℕ
-numeratorBoundOf b i = b .df
+numeratorBoundOf b i = getD (b .numerators) i 0
 
--- the bytes of paper 01's recovered sheet: 4 + 2 ((dg + 1) + n (df + 1))
+-- the largest of the first n outputs' bounds, 0 where n is 0
+unfoldable pub largestBound : Bounds → ℕ → ℕ
+largestBound b zero = 0
+largestBound b (suc i) = cond (ltb (largestBound b i) (numeratorBoundOf b i)) (numeratorBoundOf b i) (largestBound b i)
+
+-- how many coefficients the first n outputs have: "each fi takes its own bound plus 1 coefficients"
+unfoldable pub numeratorCount : Bounds → ℕ → ℕ
+numeratorCount b zero = 0
+numeratorCount b (suc i) = numeratorCount b i + (numeratorBoundOf b i + 1)
+
+-- the bytes of the recovered sheet: a word, the dg + 1 coefficients of g and those of all outputs, 16 bits each
 abbrev pub answerLengthOf : Bounds → ℕ
-answerLengthOf b = 4 + 2 * ((b .dg + 1) + b .outputs * (b .df + 1))
+answerLengthOf b = 4 + 2 * ((b .dg + 1) + numeratorCount b (b .outputs))
 
 -- the bounds of an answer that a polynomial of 32 coefficients for g and 4 of them for the f's can hold
 pub record Storable (b : Bounds) : Type 0 where
   pub few : b .outputs ≤ 4
   pub denominator-low : b .dg ≤ 31
-  pub numerators-low : (i : ℕ) → numeratorBoundOf b i ≤ 31
+  pub numerators-low : (i : ℕ) → i < b .outputs → numeratorBoundOf b i ≤ 31
 
 -- bounds of a job with enough rows, for which every array is long enough
 pub record Sized (b : Bounds) : Type 0 where

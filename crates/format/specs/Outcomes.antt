@@ -12,6 +12,7 @@ use Rattle.format.specs.declared.Reason.the-variants.{
   NoAnswer,
   TooManyRows,
   NotReduced,
+  AddedHeader,
 }
 use Rattle.format.specs.declared.Report.{Report}
 use Rattle.format.specs.declared.Outcome.{Outcome}
@@ -20,7 +21,7 @@ use Rattle.format.specs.declared.WritingReport.{WritingReport}
 use Rattle.format.specs.declared.Writing.{Writing}
 use Rattle.format.specs.declared.Writing.the-variants as writing
 
--- the number of a refusal: 1 to 8 in paper 01's table, 9 and 10 in paper 02, item 1
+-- the number of a refusal: 1 to 8 in paper 01's table, 9 and 10 in paper 02, item 1, 11 in item 5
 abbrev pub numberOf : Reason → ℕ
 numberOf TooShort = 1
 numberOf SpareBit = 2
@@ -32,6 +33,7 @@ numberOf AreaTooShort = 7
 numberOf NoAnswer = 8
 numberOf TooManyRows = 9
 numberOf NotReduced = 10
+numberOf AddedHeader = 11
 
 -- "A refusal carries its number and the row it speaks of": it writes nothing, and no rows are counted
 abbrev pub refusedReport : (number row : ℕ) → Report

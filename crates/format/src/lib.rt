@@ -1,25 +1,50 @@
 // What a job's header fixes, and what a call answers.
+ghost use Prim.Native.Nat.{_≤_, _<_};
+ghost use mathlib.Core.Bool.{cond};
 ghost use mathlib.Core.Path.{_≡_};
-ghost use Rattle.format.specs.Bounds.{numeratorBoundOf, answerLengthOf, Storable};
+ghost use lib.Dec.{ltb};
+ghost use Rattle.format.specs.Bounds.{numeratorBoundOf, largestBound, answerLengthOf, Storable};
 ghost use Rattle.format.specs.Outcomes.{numberOf, reportOf};
 use field::Prime;
 
-// The header's fields: the prime, n outputs, L rows, the degree bounds df and dg, E.
+// What a header fixes: the prime, n outputs, L rows, the degree bounds of f1 to f4 and of g, E.
 pub struct Bounds {
     pub prime: Prime,
     pub outputs: usize,
     pub rows: usize,
-    pub df: usize,
+    pub numerators: [usize; 4],
     pub dg: usize,
     pub errors: usize,
 }
 
+fn larger(a: usize, b: usize) -> usize
+    ensures { λ r. ⌜ r ≡ cond (ltb a b) b a ⌝ }
+{
+    if a < b {
+        return b;
+    }
+    a
+}
+
 impl Bounds {
-    // The degree bound of output i.
+    // The degree bound of output i, counted from 0.
     pub fn numerator_bound(self, i: usize) -> usize
+        requires { ⌜ i < 4 ⌝ }
         ensures { λ r. ⌜ r ≡ numeratorBoundOf self i ⌝ }
     {
-        self.df
+        self.numerators[i]
+    }
+
+    // The largest degree bound of the first n outputs.
+    pub fn largest_bound(self, n: usize) -> usize
+        requires { ⌜ n ≤ 4 ⌝ }
+        ensures { λ r. ⌜ r ≡ largestBound self n ⌝ }
+    {
+        let mut largest = 0;
+        for i in 0..n {
+            largest = larger(largest, self.numerator_bound(i));
+        }
+        largest
     }
 
     // How many bytes an answer has.
@@ -27,11 +52,17 @@ impl Bounds {
         requires { ⌜ Storable self ⌝ }
         ensures { λ r. ⌜ r ≡ answerLengthOf self ⌝ }
     {
-        4 + 2 * ((self.dg + 1) + self.outputs * (self.numerator_bound(0) + 1))
+        let n = self.outputs;
+        let mut count = self.dg + 1;
+        for i in 0..n {
+            count += self.numerator_bound(i) + 1;
+        }
+        4 + 2 * count
     }
 }
 
-// The refusals in the order of their numbers: the eight of paper 01's table, then those of paper 02, which recovery never gives.
+// The refusals in the order of their numbers: the eight of paper 01's table, then those of paper 02. A job is never refused with SpareBit, which
+// stays for formats without the longer header, and a recovery gives of the later ones AddedHeader alone.
 pub enum Reason {
     TooShort,
     SpareBit,
@@ -43,6 +74,7 @@ pub enum Reason {
     NoAnswer,
     TooManyRows,
     NotReduced,
+    AddedHeader,
 }
 
 // What a call answers. Accepted is the reader's answer to a well-formed job; recovery never gives it.
@@ -67,6 +99,7 @@ pub fn number(reason: Reason) -> u32
         Reason::NoAnswer => 8,
         Reason::TooManyRows => 9,
         Reason::NotReduced => 10,
+        Reason::AddedHeader => 11,
     }
 }
 

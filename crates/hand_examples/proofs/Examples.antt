@@ -39,8 +39,9 @@ use Rattle.column.specs.Columns.{columnAt, columnOf}
 use Rattle.extension.specs.Extensions.{raisedAt, raisedBelow, withOutput, extendedOf}
 use Rattle.vector.specs.Vector.{unsolvableCandidate}
 use Rattle.candidate.specs.Candidates.{startCandidate, withFraction, nextOf, candidateAfter}
-use Rattle.cursor.specs.Bits.{headerOf}
-use Rattle.header.specs.Header.{boundsOf, spareBitOf}
+use Rattle.format.specs.Bounds.{largestBound, numeratorCount}
+use Rattle.cursor.specs.Bits.{fieldOf}
+use Rattle.header.specs.Header.{outputsOf, dfOf, spareBitOf, numeratorBoundsOf, flagsOf, boundsOf}
 use Rattle.row_search.specs.Search.{firstBelow}
 use Rattle.rows.specs.Rows.{numberAt, jobPoints, jobValues}
 use Rattle.job.specs.Refusals.{outcomeOfRows, outcomeOf}
@@ -52,7 +53,7 @@ use Rattle.recovery.specs.Recovery.{Settled}
 use Rattle.solver.specs.Solutions.{unsolvedSolution, wordBy, countedSolution, judgedSolution}
 use Rattle.recovery_laws.proofs.Laws.{settled-unique}
 use Rattle.hand_examples.specs.Table.{Example, table, ExampleHolds, EveryHolds}
-use Rattle.hand_examples.specs.Enlargement.{larger}
+use Rattle.hand_examples.specs.Enlargement.{smaller, larger}
 use Rattle.hand_examples.proofs.Model.{Result, resultOf, result-settled}
 
 abbrev computed : Example → Result
@@ -79,12 +80,12 @@ each (e ∷ l) h = (
   each l (ap others h),
 )
 
--- H1 to H12, and before them the larger job of the enlargement rule's example
+-- H1 to H12, and before them the two jobs of the enlargement rule's example
 abbrev all : List Example
-all = larger ∷ table
+all = larger ∷ smaller ∷ table
 
 as-expected : map computed all ≡ map expected all
-unfolding table resultOf outcomeOf outcomeOfRows headerOf boundsOf spareBitOf firstBelow numberAt jobPoints jobValues tabulate judgedSolution
+unfolding table resultOf outcomeOf outcomeOfRows largestBound numeratorCount fieldOf outputsOf dfOf spareBitOf numeratorBoundsOf flagsOf boundsOf firstBelow numberAt jobPoints jobValues tabulate judgedSolution
     countedSolution unsolvedSolution wordBy candidateAfter nextOf withFraction extendedOf withOutput raisedBelow raisedAt columnOf columnAt
     startCandidate unsolvableCandidate pairsAfter stepBy startOf smallerOf combinedOf advancedOf discrepancyOf valueOf combinationOf
     combinationAt timesLinearOf timesLinearAt scaledOf scaledAt lengthOf lengthBelow sumBelow productAt productOf unitOf numeratorOf
@@ -97,7 +98,7 @@ all-hold = each all as-expected
 
 -- H1 to H12
 pub hand-examples : EveryHolds table
-hand-examples = all-hold .1
+hand-examples = all-hold .1 .1
 
 -- and a call of the recovery for a job of the table reports and leaves nothing else
 pub only-result : (e : Example) → ExampleHolds e → (area : List ℕ) → length area ≡ e .room → {r : Report} {after : List ℕ} → Settled (e .job) area r after

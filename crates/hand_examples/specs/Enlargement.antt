@@ -1,4 +1,4 @@
--- Demand 3 speaks of something: two jobs that meet all its conditions, T and T' as in the enlargement rule.
+-- Demand 3 speaks of something: two jobs that meet all its conditions, T with the short header and T' with the longer one, and with bounds that differ.
 use mathlib.Core.Path.{_≡_}
 use mathlib.Core.Bool.{true}
 use mathlib.Core.List.{List, [], _∷_}
@@ -8,24 +8,23 @@ use Rattle.header.specs.Header.{boundsOf}
 use Rattle.answer.specs.Bytes.{overwritten}
 use Rattle.problem.specs.Answers.{wrongAt}
 use Rattle.enlargement.specs.Enlargement.{AnsweredWith, StandsAt, furtherRow, furtherWrong, Comparable}
+use Rattle.enlargement.specs.Pair.{smallerJob, largerJob, pairNumerators, pairDenominator}
 use Rattle.recovery.specs.Recovery.{Settled}
-use Rattle.hand_examples.specs.Table.{Example, numbers, answered, three}
+use Rattle.hand_examples.specs.Table.{Example, answered}
 
--- T is H1's job, modulo 7: df 0, dg 0, E 1 and the rows (0; 5), (1; 5), (2; 2). Its answer is 5 / 1, and row 2 is wrong.
+-- T's answer is 5 / 1 and 3 / 1, and row 2 is wrong
 abbrev pub smaller : Example
-smaller = answered (three 5 5 2) 8 1 (0x2000 ∷ 0x0000 ∷ 0x0001 ∷ 0x0005 ∷ [])
+smaller = answered smallerJob 10 1 (0x2000 ∷ 0x0000 ∷ 0x0001 ∷ 0x0005 ∷ 0x0003 ∷ [])
 
--- T' has df 1, dg 0, E 2. T's rows stand at 2, 3 and 0; the further rows are (3; 1), which is wrong, (4; 5) and (5; 5).
+-- so is that of T', where rows 0 and 1 are wrong: 1 coefficient of f1 and 2 of f2
 abbrev pub larger : Example
-larger =
-    answered (0x03 ∷ 0x04 ∷ 0x04 ∷ numbers (2 ∷ 2 ∷ 3 ∷ 1 ∷ 0 ∷ 5 ∷ 1 ∷ 5 ∷ 4 ∷ 5 ∷ 5 ∷ 5 ∷ [])) 10 2
-    (0xC000 ∷ 0x0000 ∷ 0x0001 ∷ 0x0005 ∷ 0x0000 ∷ [])
+larger = answered largerJob 12 2 (0xC000 ∷ 0x0000 ∷ 0x0001 ∷ 0x0005 ∷ 0x0003 ∷ 0x0000 ∷ [])
 
 abbrev pub f : ℕ → List ℕ
-f i = 5 ∷ []
+f = pairNumerators
 
 abbrev pub g : List ℕ
-g = 1 ∷ []
+g = pairDenominator
 
 -- the areas before the two calls
 pub record RuleApplies (area area' : List ℕ) : Type 0 where
@@ -39,6 +38,6 @@ pub record RuleApplies (area area' : List ℕ) : Type 0 where
   pub further : furtherWrong (smaller .job) (larger .job) f g ≡ 1
   pub few : 1 + furtherWrong (smaller .job) (larger .job) f g ≤ boundsOf (larger .job) .errors
 
--- the claim, for any areas of 8 and 10 bytes
+-- the claim, for any areas of 10 and 12 bytes
 abbrev pub RuleSpeaks : Type 0
-RuleSpeaks = (area area' : List ℕ) → length area ≡ 8 → length area' ≡ 10 → RuleApplies area area'
+RuleSpeaks = (area area' : List ℕ) → length area ≡ 10 → length area' ≡ 12 → RuleApplies area area'

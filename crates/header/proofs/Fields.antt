@@ -1,20 +1,57 @@
 -- Bounds on what a header can say.
-use Prim.Native.Nat.{ℕ, _+_, _*_, _≤_}
+use Prim.Native.Nat.{ℕ, _+_, _*_, _≤_, _<_}
+use mathlib.Core.Bool.{Bool, true, false, cond}
 use mathlib.Core.List.{List}
+use mathlib.Core.Path.{_≡_}
 use native.Mathlib.Nat.{mul-le-mul}
 use native.Mathlib.Omega.{arith}
+use Rattle.lists.proofs.Tabulated.{at-tabulate, at-tabulate-past}
+use lib.Dec.{ltb, eqb}
 use Rattle.format.specs.declared.Bounds.{Bounds}
-use Rattle.format.specs.Bounds.{Storable}
-use Rattle.header.specs.Header.{boundsOf, Narrow}
+use Rattle.format.specs.Bounds.{numeratorBoundOf, Storable}
+use Rattle.cursor.specs.Bits.{fieldOf}
+use Rattle.cursor.proofs.Fields.{field-below}
+use Rattle.header.specs.Header.{outputsOf, dfOf, spareBitOf, numeratorBoundsOf, boundsOf, headerOf, Narrow, NarrowHeader}
 
 pub narrow : (s : List ℕ) → Narrow (boundsOf s)
-unfolding boundsOf
-narrow s = omega arith
+unfolding boundsOf outputsOf
+narrow s = record {
+  outputs-least = omega arith;
+  outputs-most = omega (arith, field-below s 2 2);
+  rows-most = omega (arith, field-below s 4 5);
+  dg-most = omega (arith, field-below s 14 5);
+  errors-most = omega (arith, field-below s 19 4);
+}
+
+pub narrow-header : (s : List ℕ) → NarrowHeader (headerOf s)
+unfolding dfOf spareBitOf
+narrow-header s = record { bounds = narrow s; df-most = omega (arith, field-below s 9 5); length-most = omega (arith, field-below s 23 1) }
+
+-- the bound of each output, by the spare bit
+pub bound-at : (s : List ℕ) (i : ℕ) → i < 4
+    → numeratorBoundOf (boundsOf s) i ≡ cond (eqb (spareBitOf s) 1) (fieldOf s (24 + 5 * i) 5) (cond (ltb i (outputsOf s)) (dfOf s) 0)
+unfolding boundsOf numeratorBoundsOf
+bound-at s i l = at-tabulate 4 _ i l
+
+pub bound-past : (s : List ℕ) (i : ℕ) → 4 ≤ i → numeratorBoundOf (boundsOf s) i ≡ 0
+unfolding boundsOf numeratorBoundsOf
+bound-past s i l = at-tabulate-past 4 _ i l
 
 pub storable : (s : List ℕ) → Storable (boundsOf s)
-storable s =
-    let fields = narrow s in
-    record { few = fields .outputs-most; denominator-low = fields .dg-most; numerators-low = λ i. fields .df-most }
+storable s = record {
+  few = narrow s .outputs-most;
+  denominator-low = narrow s .dg-most;
+  numerators-low = λ i l. by i (omega (arith, narrow s .outputs-most));
+}
+  where
+    low : (spare exists : Bool) (own df : ℕ) → own ≤ 31 → df ≤ 31 → cond spare own (cond exists df 0) ≤ 31
+    low true exists own df a b = a
+    low false true own df a b = b
+    low false false own df a b = omega arith
+
+    by : (i : ℕ) → i < 4 → numeratorBoundOf (boundsOf s) i ≤ 31
+    by i l =
+        rw (bound-at s i l) (low (eqb (spareBitOf s) 1) (ltb i (outputsOf s)) _ (dfOf s) (omega (arith, field-below s (24 + 5 * i) 5)) (narrow-header s .df-most))
 
 -- the bytes of all rows
 pub rows-bytes : (b : Bounds) → Narrow b → 2 * b .rows * (1 + b .outputs) ≤ 310

@@ -1,39 +1,70 @@
--- Paper 01, "The job sheet": the header's 24 bits, most significant bit first: "prime code 2, n - 1 in 2, L in 5, df in 5, dg in 5, E in 4, one spare bit".
-use Prim.Native.Nat.{ℕ, _+_, _*_, _/_, _%_, _^_, _≤_}
+-- Paper 01, "The job sheet", and paper 02, item 5: a header's fields, one after the other, most significant bit first. A bit that is not there
+-- reads as 0.
+use Prim.Native.Nat.{ℕ, _+_, _*_, _≤_}
+use mathlib.Core.Bool.{Bool, cond}
 use mathlib.Core.List.{List}
+use lib.Dec.{ltb, eqb}
+use Rattle.lists.specs.Tabulated.{tabulate}
 use Rattle.field.specs.Primes.{primeOfCode}
 use Rattle.format.specs.declared.Bounds.{Bounds}
-use Rattle.cursor.specs.Bits.{headerOf}
+use Rattle.cursor.specs.Bits.{fieldOf}
+use Rattle.header.specs.declared.Header.{Header}
 
--- the fields above the spare bit: bits 22 and 23 are the prime code, 20 and 21 n - 1, 15 to 19 L, 10 to 14 df, 5 to 9 dg, 1 to 4 E
+-- "prime code 2, n − 1 in 2, L in 5, df in 5, dg in 5, E in 4, one spare bit": the number of outputs n, df, and the spare bit
+unfoldable pub outputsOf : List ℕ → ℕ
+outputsOf s = fieldOf s 2 2 + 1
+
+unfoldable pub dfOf : List ℕ → ℕ
+dfOf s = fieldOf s 9 5
+
+unfoldable pub spareBitOf : List ℕ → ℕ
+spareBitOf s = fieldOf s 23 1
+
+-- "If the spare bit is 1, four more header bytes follow": a header has 3 bytes, or 7
+abbrev pub headerLengthOf : List ℕ → ℕ
+headerLengthOf s = 3 + 4 * spareBitOf s
+
+-- "four 5-bit bounds for f1 to f4" in the longer header; else df for every output, and 0 for "outputs that don't exist"
+unfoldable pub numeratorBoundsOf : List ℕ → List ℕ
+numeratorBoundsOf s = tabulate 4 (λ i. cond (eqb (spareBitOf s) 1) (fieldOf s (24 + 5 * i) 5) (cond (ltb i (outputsOf s)) (dfOf s) 0))
+
+-- "then 12 flag bits"; a short header sets none
+unfoldable pub flagsOf : List ℕ → ℕ
+flagsOf s = cond (eqb (spareBitOf s) 1) (fieldOf s 44 12) 0
+
+-- what the header fixes
 unfoldable pub boundsOf : List ℕ → Bounds
 boundsOf s =
     record {
-      prime = primeOfCode (headerOf s / 2 ^ 22 % 4);
-      outputs = headerOf s / 2 ^ 20 % 4 + 1;
-      rows = headerOf s / 2 ^ 15 % 32;
-      df = headerOf s / 2 ^ 10 % 32;
-      dg = headerOf s / 2 ^ 5 % 32;
-      errors = headerOf s / 2 % 16;
+      prime = primeOfCode (fieldOf s 0 2);
+      outputs = outputsOf s;
+      rows = fieldOf s 4 5;
+      numerators = numeratorBoundsOf s;
+      dg = fieldOf s 14 5;
+      errors = fieldOf s 19 4;
     }
 
--- the spare bit, the last of the 24
-unfoldable pub spareBitOf : List ℕ → ℕ
-spareBitOf s = headerOf s % 2
+-- all that it says
+abbrev pub headerOf : List ℕ → Header
+headerOf s = record { bounds = boundsOf s; df = dfOf s; flags = flagsOf s; length = headerLengthOf s }
 
--- "A job has 3 + 2 × L × (1 + n) bytes"
-abbrev pub jobLengthOf : Bounds → ℕ
-jobLengthOf b = 3 + 2 * b .rows * (1 + b .outputs)
+-- "A job has 3 + 2 × L × (1 + n) bytes", with the longer header "7 + 2 × L × (1 + n)"
+abbrev pub jobLengthOf : Header → ℕ
+jobLengthOf h = h .length + 2 * h .bounds .rows * (1 + h .bounds .outputs)
 
 -- the rows that refusal 4 asks for: df + dg + 2 × E + 1
-abbrev pub rowsNeededOf : Bounds → ℕ
-rowsNeededOf b = b .df + b .dg + 2 * b .errors + 1
+abbrev pub rowsNeededOf : Header → ℕ
+rowsNeededOf h = h .df + h .bounds .dg + 2 * h .bounds .errors + 1
 
 -- what fits the header's fields
 pub record Narrow (b : Bounds) : Type 0 where
   pub outputs-least : 1 ≤ b .outputs
   pub outputs-most : b .outputs ≤ 4
   pub rows-most : b .rows ≤ 31
-  pub df-most : b .df ≤ 31
   pub dg-most : b .dg ≤ 31
   pub errors-most : b .errors ≤ 15
+
+pub record NarrowHeader (h : Header) : Type 0 where
+  pub bounds : Narrow (h .bounds)
+  pub df-most : h .df ≤ 31
+  pub length-most : h .length ≤ 7

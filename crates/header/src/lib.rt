@@ -1,15 +1,27 @@
 // A job's header: its fields, and the lengths that they fix.
-ghost use Prim.Native.Nat.{_≤_};
+ghost use Prim.Native.Nat.{_+_, _*_, _≤_};
+ghost use mathlib.Core.Bool.{cond};
 ghost use mathlib.Core.Path.{_≡_};
-ghost use lib.ListN.{length};
-ghost use Rattle.header.specs.Header.{boundsOf, spareBitOf, jobLengthOf, rowsNeededOf, Narrow};
+ghost use lib.Dec.{ltb, eqb};
+ghost use Rattle.lists.specs.Tabulated.{tabulate};
+ghost use Rattle.cursor.specs.Bits.{fieldOf};
+ghost use Rattle.header.specs.Header.{headerOf, jobLengthOf, rowsNeededOf, NarrowHeader};
 use cursor::Cursor;
+use cursor::Field;
 use format::Bounds;
 
-// All fields of a header.
+// All that a header says: the bounds, df, the flags of the longer header, and how many bytes it has, 3 or 7.
 pub struct Header {
     pub bounds: Bounds,
-    pub spare: u32,
+    pub df: usize,
+    pub flags: u32,
+    pub length: usize,
+}
+
+// What the longer header adds, or what stands for it: the degree bounds of f1 to f4, and the flags.
+struct Added {
+    numerators: [usize; 4],
+    flags: u32,
 }
 
 fn size(x: u32) -> usize
@@ -18,10 +30,55 @@ fn size(x: u32) -> usize
     x as usize
 }
 
+// The short header: one bound for every output, and no flags.
+fn without_added(outputs: usize, df: usize) -> Added
+    requires { ⌜ outputs ≤ 4 ⌝ }
+    ensures { λ r. ⌜ (r .numerators ≡ tabulate 4 (λ i. cond (ltb i outputs) df 0)) × (r .flags ≡ 0) ⌝ }
+{
+    let mut numerators = [0usize; 4];
+    for i in 0..outputs {
+        numerators[i] = df;
+    }
+    Added {
+        numerators: numerators,
+        flags: 0,
+    }
+}
+
+// The longer header: a bound for each output, then the flags.
+fn read_added(s: &[u8], start: Cursor) -> Added
+    requires { ⌜ start .at ≡ 24 ⌝ }
+    ensures { λ r. ⌜ (r .numerators ≡ tabulate 4 (λ i. fieldOf (now (s .entry)) (24 + 5 * i) 5)) × (r .flags ≡ fieldOf (now (s .entry)) 44 12) ⌝ }
+{
+    let mut numerators = [0usize; 4];
+    let mut at = start;
+    for i in 0..4 {
+        let bound = at.take(s, 5);
+        numerators[i] = size(bound.value);
+        at = bound.next;
+    }
+    let flags = at.take(s, 12);
+    Added {
+        numerators: numerators,
+        flags: flags.value,
+    }
+}
+
+// Either, by the spare bit.
+fn added_or_not(s: &[u8], spare: Field, outputs: usize, df: usize) -> Added
+    requires { ⌜ (spare .next .at ≡ 24) × (outputs ≤ 4) ⌝ }
+    ensures { λ r. ⌜ (r .numerators ≡ tabulate 4 (λ i. cond (eqb (spare .value) 1) (fieldOf (now (s .entry)) (24 + 5 * i) 5) (cond (ltb i outputs) df 0)))
+        × (r .flags ≡ cond (eqb (spare .value) 1) (fieldOf (now (s .entry)) 44 12) 0) ⌝ }
+{
+    if spare.value == 1 {
+        return read_added(s, spare.next);
+    }
+    without_added(outputs, df)
+}
+
 // Reads the fields one after the other.
 pub fn read_header(s: &[u8]) -> Header
-    requires { ⌜ 3 ≤ length (now s) ⌝ }
-    ensures { λ r. ⌜ (r .bounds ≡ boundsOf (now (s .entry))) × (r .spare ≡ spareBitOf (now (s .entry))) ⌝ }
+    ensures { λ r. ⌜ r ≡ headerOf (now (s .entry)) ⌝ }
 {
     let start = Cursor { at: 0 };
     let code = start.take(s, 2);
@@ -32,32 +89,39 @@ pub fn read_header(s: &[u8]) -> Header
     let errors = dg.next.take(s, 4);
     let spare = errors.next.take(s, 1);
     let prime = field::prime_of_code(code.value);
+    let n = size(outputs.value) + 1;
+    let added = added_or_not(s, spare, n, size(df.value));
+    let numerators = added.numerators;
     let bounds = Bounds {
         prime: prime,
-        outputs: size(outputs.value) + 1,
+        outputs: n,
         rows: size(rows.value),
-        df: size(df.value),
+        numerators: numerators,
         dg: size(dg.value),
         errors: size(errors.value),
     };
     Header {
         bounds: bounds,
-        spare: spare.value,
+        df: size(df.value),
+        flags: added.flags,
+        length: 3 + 4 * size(spare.value),
     }
 }
 
-// The bytes of a job with these bounds.
-pub fn job_length(b: Bounds) -> usize
-    requires { ⌜ Narrow b ⌝ }
-    ensures { λ r. ⌜ r ≡ jobLengthOf b ⌝ }
+// The bytes of a job with this header.
+pub fn job_length(h: Header) -> usize
+    requires { ⌜ NarrowHeader h ⌝ }
+    ensures { λ r. ⌜ r ≡ jobLengthOf h ⌝ }
 {
-    3 + 2 * b.rows * (1 + b.outputs)
+    let b = h.bounds;
+    h.length + 2 * b.rows * (1 + b.outputs)
 }
 
 // The fewest rows by which an answer within these bounds is found.
-pub fn rows_needed(b: Bounds) -> usize
-    requires { ⌜ Narrow b ⌝ }
-    ensures { λ r. ⌜ r ≡ rowsNeededOf b ⌝ }
+pub fn rows_needed(h: Header) -> usize
+    requires { ⌜ NarrowHeader h ⌝ }
+    ensures { λ r. ⌜ r ≡ rowsNeededOf h ⌝ }
 {
-    b.numerator_bound(0) + b.dg + 2 * b.errors + 1
+    let b = h.bounds;
+    h.df + b.dg + 2 * b.errors + 1
 }

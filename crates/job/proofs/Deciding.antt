@@ -8,9 +8,8 @@ use Rattle.format.specs.declared.Outcome.the-variants.{Accepted, Refused}
 use Rattle.row_search.specs.declared.Found.the-variants.{At, Nothing}
 use Rattle.header.specs.Header.{boundsOf}
 use Rattle.row_search.specs.Search.{firstBelow}
+use Rattle.header_rules.specs.Rules.{tooShort, addedHeaderBroken}
 use Rattle.job.specs.Refusals.{
-  tooShort,
-  spareBitIsOne,
   byteCountDiffers,
   tooFewRows,
   outOfRange,
@@ -45,11 +44,11 @@ module _ (s : List ℕ) (area : ℕ) where
   unfolding outcomeOf
   at-1 e = rw e refl
 
-  module _ (not-1 : tooShort s ≡ false) (not-2 : spareBitIsOne s ≡ false) (not-3 : byteCountDiffers s ≡ false) where
+  module _ (not-1 : tooShort s ≡ false) (not-11 : addedHeaderBroken s ≡ false) (not-3 : byteCountDiffers s ≡ false) where
     pub at-4 : tooFewRows s ≡ true → outcomeOf s area ≡ Refused TooFewRows 0
     unfolding outcomeOf
-    at-4 e = rw (not-1, not-2, not-3, e) refl
+    at-4 e = rw (not-1, not-11, not-3, e) refl
 
     pub past-4 : tooFewRows s ≡ false → outcomeOf s area ≡ outcomeOfRows s area
     unfolding outcomeOf
-    past-4 e = rw (not-1, not-2, not-3, e) refl
+    past-4 e = rw (not-1, not-11, not-3, e) refl

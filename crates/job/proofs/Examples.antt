@@ -1,12 +1,15 @@
--- Paper 01's refusal table but for its last row, H11 and H12, by the definitions.
+-- Ways to break the longer header, and paper 01's refusal table but for its last row, H11 and H12, by the definitions. The job of 2 meets 1 since paper 02,
+-- item 5.
 use mathlib.Core.List.{List, [], _∷_, map}
 use mathlib.Core.Path.{_≡_, refl}
-use Prim.Native.Nat.{ℕ}
-use Rattle.format.specs.declared.Reason.the-variants.{TooShort, SpareBit, ByteCount, TooFewRows, OutOfRange, RepeatedPoint, AreaTooShort}
+use Prim.Native.Nat.{ℕ, _+_, _*_}
+use Rattle.format.specs.declared.Reason.the-variants.{TooShort, AddedHeader, ByteCount, TooFewRows, OutOfRange, RepeatedPoint, AreaTooShort}
 use Rattle.format.specs.declared.Outcome.{Outcome}
 use Rattle.format.specs.declared.Outcome.the-variants.{Accepted, Refused}
-use Rattle.cursor.specs.Bits.{headerOf}
-use Rattle.header.specs.Header.{boundsOf, spareBitOf}
+use Rattle.lists.specs.Tabulated.{tabulate}
+use Rattle.format.specs.Bounds.{largestBound, numeratorCount}
+use Rattle.cursor.specs.Bits.{fieldOf}
+use Rattle.header.specs.Header.{outputsOf, dfOf, spareBitOf, numeratorBoundsOf, flagsOf, boundsOf}
 use Rattle.row_search.specs.Search.{firstBelow}
 use Rattle.rows.specs.Rows.{numberAt}
 use Rattle.job.specs.Refusals.{outcomeOfRows, outcomeOf}
@@ -20,10 +23,26 @@ pub record Example : Type 0 where
 h1 : List ℕ
 h1 = 0x01 ∷ 0x80 ∷ 0x02 ∷ 0x00 ∷ 0x00 ∷ 0x00 ∷ 0x05 ∷ 0x00 ∷ 0x01 ∷ 0x00 ∷ 0x05 ∷ 0x00 ∷ 0x02 ∷ 0x00 ∷ 0x02 ∷ []
 
+-- H1's header with the spare bit 1, another df, and four bytes behind it
+longer : (df a b c d : ℕ) → List ℕ
+longer df a b c d = 0x01 ∷ (0x80 + 4 * df) ∷ 0x03 ∷ a ∷ b ∷ c ∷ d ∷ []
+
+broken : List ℕ → Example
+broken job = record { job = job; area = 8; outcome = Refused AddedHeader 0 }
+
+-- the first and the last flag, bounds of f2 and f4, df above and below the largest; the rows are not there, which would be 3
 pub examples : List Example
 examples =
-    record { job = 0x01 ∷ 0x80 ∷ []; area = 8; outcome = Refused TooShort 0 }
-    ∷ record { job = 0x01 ∷ 0x80 ∷ 0x03 ∷ []; area = 8; outcome = Refused SpareBit 0 }
+    broken (longer 0 0x00 0x00 0x08 0x00)
+    ∷ broken (longer 0 0x00 0x00 0x00 0x01)
+    ∷ broken (longer 0 0x00 0x40 0x00 0x00)
+    ∷ broken (longer 0 0x00 0x00 0x10 0x00)
+    ∷ broken (longer 1 0x00 0x00 0x00 0x00)
+    ∷ broken (longer 0 0x08 0x00 0x00 0x00)
+    ∷ record { job = longer 0 0x00 0x00 0x00 0x00; area = 8; outcome = Refused ByteCount 0 }
+    ∷ record { job = 0x01 ∷ 0x80 ∷ 0x03 ∷ 0xFF ∷ 0xFF ∷ 0xFF ∷ []; area = 8; outcome = Refused TooShort 0 }
+    ∷ record { job = 0x01 ∷ 0x80 ∷ []; area = 8; outcome = Refused TooShort 0 }
+    ∷ record { job = 0x01 ∷ 0x80 ∷ 0x03 ∷ []; area = 8; outcome = Refused TooShort 0 }
     ∷ record { job = 0x01 ∷ 0x80 ∷ 0x02 ∷ 0x00 ∷ 0x00 ∷ []; area = 8; outcome = Refused ByteCount 0 }
     ∷ record { job = 0x01 ∷ 0x00 ∷ 0x02 ∷ 0x00 ∷ 0x00 ∷ 0x00 ∷ 0x05 ∷ 0x00 ∷ 0x01 ∷ 0x00 ∷ 0x05 ∷ []; area = 8; outcome = Refused TooFewRows 0 }
     ∷ record {
@@ -42,5 +61,5 @@ examples =
     ∷ []
 
 pub examples-hold : map (λ (e : Example). outcomeOf (e .job) (e .area)) examples ≡ map (λ (e : Example). e .outcome) examples
-unfolding examples h1 outcomeOf outcomeOfRows headerOf boundsOf spareBitOf firstBelow numberAt
+unfolding examples h1 longer broken outcomeOf outcomeOfRows tabulate fieldOf outputsOf dfOf spareBitOf numeratorBoundsOf flagsOf boundsOf largestBound numeratorCount firstBelow numberAt
 examples-hold = refl

@@ -3,22 +3,23 @@ use mathlib.Core.Bool.{Bool, true, false, not, _||_, true≢false}
 use mathlib.Core.List.{List}
 use mathlib.Core.Logic.{_⊎_, inl, inr, ⊎-elim}
 use mathlib.Core.Path.{_≡_, refl, sym, ap, ap₂, _∙_}
-use Prim.Native.Nat.{ℕ, _%_, _<_, _≤_}
+use Prim.Native.Nat.{ℕ, _+_, _*_, _<_, _≤_}
 use native.Mathlib.Nat.{eq-or-lt-of-le}
 use native.Mathlib.Omega.{arith}
 use borrow.Author.Tests.{leb-false, eqb-false, eqb-true, ltb-false, not-false, lt-leb, ne-eqb, eq-eqb, le-ltb}
 use lib.Dec.{eqb, leb}
 use lib.ListN.{length}
-use Rattle.lists.proofs.Truth.{clash}
+use Rattle.lists.proofs.Truth.{clash, or-false}
 use Rattle.field.specs.Primes.{modulusOf}
-use Rattle.format.specs.Bounds.{answerLengthOf}
+use Rattle.format.specs.Bounds.{numeratorBoundOf, answerLengthOf}
 use Rattle.format.specs.declared.Reason.{Reason}
-use Rattle.format.specs.declared.Reason.the-variants.{TooShort, SpareBit, ByteCount, TooFewRows, OutOfRange, RepeatedPoint, AreaTooShort}
+use Rattle.format.specs.declared.Reason.the-variants.{TooShort, AddedHeader, ByteCount, TooFewRows, OutOfRange, RepeatedPoint, AreaTooShort}
 use Rattle.format.specs.declared.Outcome.{Outcome}
 use Rattle.format.specs.declared.Outcome.the-variants.{Accepted, Refused}
-use Rattle.cursor.specs.Bits.{headerOf}
-use Rattle.header.specs.Header.{boundsOf, spareBitOf, jobLengthOf, rowsNeededOf, Narrow}
+use Rattle.header.specs.Header.{boundsOf, headerOf, jobLengthOf, rowsNeededOf, Narrow}
 use Rattle.header.proofs.Fields.{narrow}
+use Rattle.header_rules.specs.Rules.{tooShort, addedHeaderBroken}
+use Rattle.header_rules.proofs.Rules.{bound-within-df}
 use Rattle.row_search.specs.declared.Found.{Found}
 use Rattle.row_search.specs.declared.Found.the-variants.{At, Nothing}
 use Rattle.row_search.specs.Search.{firstBelow, ifHolds, isFound}
@@ -27,8 +28,6 @@ use Rattle.lists.proofs.Order.{lt-or-ge}
 use Rattle.row_search.proofs.FirstBelow.{at-not-nothing, none-passes, any-passes, none-below}
 use Rattle.job.proofs.Deciding.{past-4, accepted}
 use Rattle.job.specs.Refusals.{
-  tooShort,
-  spareBitIsOne,
   byteCountDiffers,
   tooFewRows,
   outOfRange,
@@ -39,10 +38,6 @@ use Rattle.job.specs.Refusals.{
   outcomeOf,
   WellFormed,
 }
-
-pub or-false : (a b : Bool) → (a || b) ≡ false → (a ≡ false) × (b ≡ false)
-or-false true b e = absurd (true≢false e)
-or-false false b e = (refl, e)
 
 module _ (s : List ℕ) (not-5 : firstBelow (boundsOf s .rows) (outOfRange s) ≡ Nothing) where
   in-range : (r : ℕ) → r < boundsOf s .rows → outOfRange s r ≡ false
@@ -73,9 +68,9 @@ module _ (s : List ℕ) (not-6 : firstBelow (boundsOf s .rows) (repeatedPoint s)
 -- What the layers above count on in a well-formed job. It is all that well-formedness says (`facts-well-formed`).
 pub record WellFormedFacts (s : List ℕ) (area : ℕ) : Type 0 where
   pub fields : Narrow (boundsOf s)
-  pub spare-bit : spareBitOf s ≡ 0
-  pub byte-count : length s ≡ jobLengthOf (boundsOf s)
-  pub enough-rows : rowsNeededOf (boundsOf s) ≤ boundsOf s .rows
+  pub rules : addedHeaderBroken s ≡ false
+  pub byte-count : length s ≡ jobLengthOf (headerOf s)
+  pub enough-rows : rowsNeededOf (headerOf s) ≤ boundsOf s .rows
   pub points-in-range : (r : ℕ) → r < boundsOf s .rows → jobPoint s r < modulusOf (boundsOf s .prime)
   pub values-in-range : (r i : ℕ) → r < boundsOf s .rows → i < boundsOf s .outputs → jobValue s r i < modulusOf (boundsOf s .prime)
   pub distinct : (q r : ℕ) → q < boundsOf s .rows → r < boundsOf s .rows → jobPoint s q ≡ jobPoint s r → q ≡ r
@@ -93,15 +88,12 @@ pub does-not-hold : (b : Bool) → ifHolds b 0 ≡ Nothing → b ≡ false
 does-not-hold true e = absurd (at-not-nothing e)
 does-not-hold false e = refl
 
-pub two-values : (h : ℕ) → (h % 2 ≡ 1 → ⊥) → h % 2 ≡ 0
-two-values h other = omega arith
-
 module _ (s : List ℕ) (area : ℕ) where
   pub well-formed-facts : WellFormed s area → WellFormedFacts s area
-  unfolding outcomeOf outcomeOfRows spareBitOf
+  unfolding outcomeOf outcomeOfRows
   well-formed-facts accepted =
       let t1 = passed TooShort (ifHolds (tooShort s) 0) _ accepted in
-      let t2 = passed SpareBit (ifHolds (spareBitIsOne s) 0) _ (t1 .1) in
+      let t2 = passed AddedHeader (ifHolds (addedHeaderBroken s) 0) _ (t1 .1) in
       let t3 = passed ByteCount (ifHolds (byteCountDiffers s) 0) _ (t2 .1) in
       let t4 = passed TooFewRows (ifHolds (tooFewRows s) 0) _ (t3 .1) in
       let t5 = passed OutOfRange (firstBelow (boundsOf s .rows) (outOfRange s)) _ (t4 .1) in
@@ -109,7 +101,7 @@ module _ (s : List ℕ) (area : ℕ) where
       let t7 = passed AreaTooShort (ifHolds (areaTooShort s area) 0) _ (t6 .1) in
       record {
         fields = narrow s;
-        spare-bit = two-values (headerOf s) (eqb-false _ _ (does-not-hold (spareBitIsOne s) (t2 .0)));
+        rules = does-not-hold (addedHeaderBroken s) (t2 .0);
         byte-count = eqb-true _ _ (not-false _ (does-not-hold (byteCountDiffers s) (t3 .0)));
         enough-rows = ltb-false _ _ (does-not-hold (tooFewRows s) (t4 .0));
         points-in-range = points-below s (t5 .0);
@@ -126,9 +118,14 @@ module _ (s : List ℕ) (area : ℕ) where
       (ap isFound (none-below (λ i. leb (modulusOf (boundsOf s .prime)) (jobValue s r i)) _ (λ i m. lt-leb _ _ (h .values-in-range r i l m)))) in
       let new-point : (r : ℕ) → r < boundsOf s .rows → repeatedPoint s r ≡ false =
       λ r l. ap isFound (none-below (λ q. eqb (jobPoint s q) (jobPoint s r)) r (λ q m. ne-eqb _ _ (later q r m l))) in
-      past-4 s area (le-ltb (length s) 3 (omega (arith, h .byte-count))) (ne-eqb (spareBitOf s) 1 (λ e. omega (arith, h .spare-bit, e)))
+      past-4 s area (le-ltb (length s) (headerOf s .length) (omega (arith, h .byte-count))) (h .rules)
       (ap not (eq-eqb _ _ (h .byte-count))) (le-ltb _ _ (h .enough-rows))
       ∙ accepted s area (none-below (outOfRange s) _ in-range) (none-below (repeatedPoint s) _ new-point) (le-ltb _ _ (h .enough-area))
     where
       later : (q r : ℕ) → q < r → r < boundsOf s .rows → jobPoint s q ≡ jobPoint s r → ⊥
       later q r m l e = let same = h .distinct q r (omega arith) l e in omega arith
+
+-- enough rows for df are enough for the bound of each output
+pub each-enough : {s : List ℕ} {area : ℕ} → WellFormedFacts s area → (i : ℕ)
+    → numeratorBoundOf (boundsOf s) i + boundsOf s .dg + 2 * boundsOf s .errors + 1 ≤ boundsOf s .rows
+each-enough {s} h i = omega (arith, bound-within-df s (h .rules) i, h .enough-rows)

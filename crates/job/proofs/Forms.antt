@@ -1,4 +1,4 @@
--- What tests 1 to 6 say does not depend on the answer area.
+-- What the tests before 7 say does not depend on the answer area.
 use mathlib.Core.Path.{_≡_, refl, sym, ap, _∙_}
 use mathlib.Core.Logic.{_⊎_, inl, inr}
 use mathlib.Core.Bool.{Bool, true, false}
@@ -9,7 +9,7 @@ use native.Mathlib.Omega.{arith}
 use borrow.Author.Tests.{le-ltb}
 use Rattle.format.specs.Bounds.{answerLengthOf}
 use Rattle.format.specs.declared.Reason.{Reason}
-use Rattle.format.specs.declared.Reason.the-variants.{TooShort, SpareBit, ByteCount, TooFewRows, OutOfRange, RepeatedPoint, AreaTooShort}
+use Rattle.format.specs.declared.Reason.the-variants.{TooShort, AddedHeader, ByteCount, TooFewRows, OutOfRange, RepeatedPoint, AreaTooShort}
 use Rattle.format.specs.declared.Outcome.{Outcome}
 use Rattle.format.specs.declared.Outcome.the-variants.{Accepted, Refused}
 use Rattle.format.specs.Outcomes.{numberOf, reportOf}
@@ -17,10 +17,9 @@ use Rattle.row_search.specs.declared.Found.{Found}
 use Rattle.row_search.specs.declared.Found.the-variants.{At, Nothing}
 use Rattle.row_search.specs.Search.{ifHolds, firstBelow}
 use Rattle.header.specs.Header.{boundsOf}
+use Rattle.header_rules.specs.Rules.{tooShort, addedHeaderBroken}
 use Rattle.job.specs.Form.{firstTests, formOutcomeOf}
 use Rattle.job.specs.Refusals.{
-  tooShort,
-  spareBitIsOne,
   byteCountDiffers,
   tooFewRows,
   outOfRange,
@@ -42,16 +41,20 @@ pub refuse-decisive : (Given : Reason → Type 0) (reason : Reason) (f : Found) 
 refuse-decisive Given reason (At row) tests given d = inl (reason, row, given, λ later. refl)
 refuse-decisive Given reason Nothing tests given d = d
 
--- the reasons of tests 1 to 6
+-- the number of a refusal before m, or 11; 2 is none
+abbrev pub Given : (m n : ℕ) → Type 0
+Given m n = (0 < n) × (n ≡ 2 → ⊥) × (m ≤ n → n ≡ 11)
+
+-- the reasons of tests 1, 11 and 3 to 6
 abbrev pub OfForm : Reason → Type 0
-OfForm reason = (0 < numberOf reason) × (numberOf reason < 7)
+OfForm reason = Given 7 (numberOf reason)
 
 module _ (s : List ℕ) where
   -- test 7 alone
   abbrev pub lastTest : ℕ → Outcome
   lastTest area = refuse AreaTooShort (ifHolds (areaTooShort s area) 0) Accepted
 
-  -- one of tests 1 to 6 refuses the job whatever the area, or test 7 decides
+  -- one of them refuses the job whatever the area, or test 7 decides
   abbrev pub ByForm : Type 0
   ByForm =
       ((reason : Reason) × (row : ℕ) × OfForm reason × ((area : ℕ) → outcomeOf s area ≡ Refused reason row))
@@ -60,7 +63,7 @@ module _ (s : List ℕ) where
   first-decisive : Decisive OfForm (firstTests s)
   first-decisive =
       refuse-decisive OfForm TooShort (ifHolds (tooShort s) 0) _ (omega arith)
-      (refuse-decisive OfForm SpareBit (ifHolds (spareBitIsOne s) 0) _ (omega arith)
+      (refuse-decisive OfForm AddedHeader (ifHolds (addedHeaderBroken s) 0) _ (omega arith)
       (refuse-decisive OfForm ByteCount (ifHolds (byteCountDiffers s) 0) _ (omega arith)
       (refuse-decisive OfForm TooFewRows (ifHolds (tooFewRows s) 0) _ (omega arith)
       (refuse-decisive OfForm OutOfRange (firstBelow (boundsOf s .rows) (outOfRange s)) _ (omega arith)
@@ -95,7 +98,7 @@ module _ (s : List ℕ) where
   unfolding formOutcomeOf outcomeOf outcomeOfRows
   form-outcome = ap (firstTests s) (sym (long-enough (answerLengthOf (boundsOf s)) (le-refl _)))
 
-  -- a check for form and the tests with an area refuse the job alike, with one of 1 to 6; or the check accepts it, and test 7 decides
+  -- a check for form and the tests with an area refuse the job alike, with one of them; or the check accepts it, and test 7 decides
   abbrev pub Alike : ℕ → Type 0
   Alike area =
       ((reason : Reason) × (row : ℕ) × OfForm reason × (formOutcomeOf s ≡ Refused reason row) × (outcomeOf s area ≡ Refused reason row))
@@ -119,12 +122,12 @@ module _ (s : List ℕ) where
           passed area ∙ long-enough area (omega (arith, answer-length-most s _ exact)) ∙ sym exact
 
   -- a refusal before 7 is given with every area
-  pub form-refused : (area : ℕ) → 0 < reportOf (outcomeOf s area) .refusal → reportOf (outcomeOf s area) .refusal < 7
+  pub form-refused : (area : ℕ) → 0 < reportOf (outcomeOf s area) .refusal → (reportOf (outcomeOf s area) .refusal ≡ 7 → ⊥)
       → outcomeOf s area ≡ outcomeOf s (answerLengthOf (boundsOf s))
-  form-refused area positive low = by by-form
+  form-refused area positive other = by by-form
     where
       seven : (short : Bool) → outcomeOf s area ≡ refuse AreaTooShort (ifHolds short 0) Accepted → ⊥
-      seven true e = let n = ap (λ o. reportOf o .refusal) e in omega arith
+      seven true e = other (ap (λ o. reportOf o .refusal) e)
       seven false e = let n = ap (λ o. reportOf o .refusal) e in omega arith
 
       by : ByForm → outcomeOf s area ≡ outcomeOf s (answerLengthOf (boundsOf s))

@@ -10,48 +10,51 @@ use borrow.Author.Tests.{lt-ltb, le-ltb, eq-eqb, ne-eqb}
 use lib.ListN.{length}
 use Rattle.field.specs.Primes.{modulusOf}
 use Rattle.format.specs.Bounds.{answerLengthOf}
+use Rattle.format.proofs.Sizes.{counts-most}
 use Rattle.format.specs.declared.Reason.the-variants.{TooFewRows, OutOfRange, RepeatedPoint}
 use Rattle.format.specs.declared.Outcome.{Outcome}
 use Rattle.format.specs.declared.Outcome.the-variants.{Accepted, Recovered, Refused}
-use Rattle.header.specs.Header.{boundsOf, spareBitOf, jobLengthOf, rowsNeededOf}
-use Rattle.header.proofs.Fields.{narrow, rows-bytes}
+use Rattle.header.specs.Header.{dfOf, boundsOf, spareBitOf, headerLengthOf, headerOf, jobLengthOf, rowsNeededOf}
+use Rattle.header.proofs.Fields.{narrow, narrow-header, rows-bytes}
+use Rattle.header_rules.specs.Rules.{tooShort, addedHeaderBroken}
+use Rattle.header_rules.proofs.Rules.{short-unbroken, bound-within-df}
 use Rattle.row_search.specs.declared.Found.{Found}
 use Rattle.row_search.specs.declared.Found.the-variants.{At, Nothing}
 use Rattle.row_search.specs.Search.{firstBelow}
 use Rattle.rows.specs.Rows.{jobPoint}
-use Rattle.job.specs.Refusals.{tooShort, spareBitIsOne, byteCountDiffers, tooFewRows, outOfRange, repeatedPoint, outcomeOfRows, outcomeOf, WellFormed}
+use Rattle.job.specs.Refusals.{byteCountDiffers, tooFewRows, outOfRange, repeatedPoint, outcomeOfRows, outcomeOf, WellFormed}
 use Rattle.job.specs.Reading.{readingWith, readingOf}
 use Rattle.job.proofs.Deciding.{at-4, at-5, at-6, past-4}
 use Rattle.job.proofs.Facts.{well-formed-facts, points-below, points-distinct}
 use Rattle.job.proofs.Pigeonhole.{pigeonhole}
 
 module _ (s : List ℕ) (area : ℕ) where
-  -- "313 at most"
-  pub job-length-most : WellFormed s area → length s ≤ 313
-  job-length-most h = omega (arith, well-formed-facts s area h .byte-count, rows-bytes (boundsOf s) (narrow s))
+  -- 4 more than paper 01's "313 at most", with the longer header
+  pub job-length-most : WellFormed s area → length s ≤ 317
+  job-length-most h = omega (arith, well-formed-facts s area h .byte-count, rows-bytes (boundsOf s) (narrow s), narrow-header s .length-most)
 
   -- "254 at most"
   pub answer-length-most : WellFormed s area → answerLengthOf (boundsOf s) ≤ 254
   answer-length-most h =
       let f = well-formed-facts s area h in
-      let n = mul-le-mul-right {n = 4} (boundsOf s .df + 1) (narrow s .outputs-most) in
-      omega (arith, f .enough-rows, narrow s .rows-most)
+      let n = mul-le-mul-right {n = 4} (dfOf s + 1) (narrow s .outputs-most) in
+      omega (arith, f .enough-rows, narrow s .rows-most, counts-most (boundsOf s) (dfOf s) (boundsOf s .outputs) (bound-within-df s (f .rules)))
 
   -- "A job of three bytes with L = 0 and spare bit 0 meets 4."
   pub no-rows : length s ≡ 3 → boundsOf s .rows ≡ 0 → spareBitOf s ≡ 0 → outcomeOf s area ≡ Refused TooFewRows 0
   no-rows three none spare =
-      let bytes : length s ≡ jobLengthOf (boundsOf s) = rw none (omega arith) in
-      at-4 s area (le-ltb (length s) 3 (omega arith)) (ne-eqb (spareBitOf s) 1 (λ e. omega (arith, spare, e)))
-      (ap not (eq-eqb (length s) (jobLengthOf (boundsOf s)) bytes)) (lt-ltb (boundsOf s .rows) (rowsNeededOf (boundsOf s)) (omega arith))
+      let bytes : length s ≡ jobLengthOf (headerOf s) = rw (spare, none) (omega arith) in
+      at-4 s area (le-ltb (length s) (headerLengthOf s) (omega arith)) (short-unbroken s spare)
+      (ap not (eq-eqb (length s) (jobLengthOf (headerOf s)) bytes)) (lt-ltb (boundsOf s .rows) (rowsNeededOf (headerOf s)) (omega arith))
 
   -- "More than p rows, where 1 to 4 don't apply, meet 5 or 6."
-  pub too-many-rows : tooShort s ≡ false → spareBitIsOne s ≡ false → byteCountDiffers s ≡ false → tooFewRows s ≡ false
+  pub too-many-rows : tooShort s ≡ false → addedHeaderBroken s ≡ false → byteCountDiffers s ≡ false → tooFewRows s ≡ false
       → modulusOf (boundsOf s .prime) < boundsOf s .rows
       → ((r : ℕ) × (outcomeOf s area ≡ Refused OutOfRange r)) ⊎ ((r : ℕ) × (outcomeOf s area ≡ Refused RepeatedPoint r))
-  too-many-rows n1 n2 n3 n4 many = five (firstBelow (boundsOf s .rows) (outOfRange s)) refl
+  too-many-rows n1 n11 n3 n4 many = five (firstBelow (boundsOf s .rows) (outOfRange s)) refl
     where
       past : outcomeOf s area ≡ outcomeOfRows s area
-      past = past-4 s area n1 n2 n3 n4
+      past = past-4 s area n1 n11 n3 n4
 
       six : firstBelow (boundsOf s .rows) (outOfRange s) ≡ Nothing → (f : Found) → firstBelow (boundsOf s .rows) (repeatedPoint s) ≡ f
           → ((r : ℕ) × (outcomeOf s area ≡ Refused OutOfRange r)) ⊎ ((r : ℕ) × (outcomeOf s area ≡ Refused RepeatedPoint r))

@@ -13,7 +13,7 @@ use Rattle.job.specs.Refusals.{outcomeOf}
 
 -- prime code 0, and 0 everywhere else
 abbrev pub noBounds : Bounds
-noBounds = record { prime = P7; outputs = 0; rows = 0; df = 0; dg = 0; errors = 0 }
+noBounds = record { prime = P7; outputs = 0; rows = 0; numerators = replicate 4 0; dg = 0; errors = 0 }
 
 -- a refused job's reading: zeros beside the outcome, whatever the bytes say
 abbrev pub refusedReading : Outcome → Reading

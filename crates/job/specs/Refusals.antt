@@ -1,4 +1,5 @@
--- Paper 01's table of refusals: the conditions 1 to 7 on the bytes s of a job and the length of the answer area.
+-- Paper 01's table of refusals with paper 02's 11: the conditions 3 to 7 on the bytes s of a job and the length of the answer area. Those of 1 and
+-- 11 stand with the header's rules.
 use Prim.Native.Nat.{ℕ}
 use mathlib.Core.Bool.{Bool, not, _||_}
 use mathlib.Core.List.{List}
@@ -8,30 +9,23 @@ use lib.ListN.{length}
 use Rattle.field.specs.Primes.{modulusOf}
 use Rattle.format.specs.Bounds.{answerLengthOf}
 use Rattle.format.specs.declared.Reason.{Reason}
-use Rattle.format.specs.declared.Reason.the-variants.{TooShort, SpareBit, ByteCount, TooFewRows, OutOfRange, RepeatedPoint, AreaTooShort}
+use Rattle.format.specs.declared.Reason.the-variants.{TooShort, AddedHeader, ByteCount, TooFewRows, OutOfRange, RepeatedPoint, AreaTooShort}
 use Rattle.format.specs.declared.Outcome.{Outcome}
 use Rattle.format.specs.declared.Outcome.the-variants.{Accepted, Refused}
 use Rattle.row_search.specs.declared.Found.{Found}
 use Rattle.row_search.specs.declared.Found.the-variants.{At, Nothing}
 use Rattle.row_search.specs.Search.{ifHolds, firstBelow, anyBelow}
-use Rattle.header.specs.Header.{boundsOf, spareBitOf, jobLengthOf, rowsNeededOf}
+use Rattle.header.specs.Header.{boundsOf, headerOf, jobLengthOf, rowsNeededOf}
+use Rattle.header_rules.specs.Rules.{tooShort, addedHeaderBroken}
 use Rattle.rows.specs.Rows.{jobPoint, jobValue}
-
--- 1: "fewer than 3 bytes"
-abbrev pub tooShort : List ℕ → Bool
-tooShort s = ltb (length s) 3
-
--- 2: "spare bit is 1"
-abbrev pub spareBitIsOne : List ℕ → Bool
-spareBitIsOne s = eqb (spareBitOf s) 1
 
 -- 3: "byte count differs from the formula"
 abbrev pub byteCountDiffers : List ℕ → Bool
-byteCountDiffers s = not (eqb (length s) (jobLengthOf (boundsOf s)))
+byteCountDiffers s = not (eqb (length s) (jobLengthOf (headerOf s)))
 
 -- 4: "L below df + dg + 2 × E + 1"
 abbrev pub tooFewRows : List ℕ → Bool
-tooFewRows s = ltb (boundsOf s .rows) (rowsNeededOf (boundsOf s))
+tooFewRows s = ltb (boundsOf s .rows) (rowsNeededOf (headerOf s))
 
 -- 5: in row r "a point or value is p or more"
 abbrev pub outOfRange : List ℕ → ℕ → Bool
@@ -58,11 +52,11 @@ outcomeOfRows s area =
     refuse OutOfRange (firstBelow (boundsOf s .rows) (outOfRange s))
     (refuse RepeatedPoint (firstBelow (boundsOf s .rows) (repeatedPoint s)) (refuse AreaTooShort (ifHolds (areaTooShort s area) 0) Accepted))
 
--- "Tests run in the order of the numbers, and the first that applies is returned"; "the row is 0 where none is named"
+-- "Tests run in the order of the numbers, and the first that applies is returned", 11 being "tested after 1"; "the row is 0 where none is named"
 unfoldable pub outcomeOf : List ℕ → ℕ → Outcome
 outcomeOf s area =
     refuse TooShort (ifHolds (tooShort s) 0)
-    (refuse SpareBit (ifHolds (spareBitIsOne s) 0)
+    (refuse AddedHeader (ifHolds (addedHeaderBroken s) 0)
     (refuse ByteCount (ifHolds (byteCountDiffers s) 0) (refuse TooFewRows (ifHolds (tooFewRows s) 0) (outcomeOfRows s area))))
 
 -- "A job is well formed when no test that stands before 8 sends it back." Test 7 is one of them, so this speaks of the area's length too.

@@ -1,35 +1,34 @@
-// Tests 1 to 4: what a job's header and length decide.
+// Tests 1, 11, 3 and 4: what a job's header and length decide.
 ghost use mathlib.Core.Path.{_≡_};
-ghost use Rattle.job.specs.Form.{headerCheckOf};
-use format::Bounds;
+ghost use Rattle.header.specs.Header.{NarrowHeader};
+ghost use Rattle.job.specs.Form.{headerOutcomeOf};
+use format::Outcome;
 use format::Reason;
+use header::Header;
 use header::job_length;
-use header::read_header;
 use header::rows_needed;
 
-// The refusal, or the header's fields.
-pub enum HeaderCheck {
-    Refused(Reason),
-    Passed(Bounds),
-}
-
-// The tests run in the order of their numbers.
-pub fn check_header(job: &[u8]) -> HeaderCheck
-    ensures { λ r. ⌜ r ≡ headerCheckOf (now (job .entry)) ⌝ }
+// The first that applies to so many bytes that begin with this header, in their order.
+pub fn check_header(bytes: usize, header: Header) -> Outcome
+    requires { ⌜ NarrowHeader header ⌝ }
+    ensures { λ r. ⌜ r ≡ headerOutcomeOf bytes header ⌝ }
 {
-    if job.len() < 3 {
-        return HeaderCheck::Refused(Reason::TooShort);
+    let examined = header_rules::examine(bytes, header);
+    let Outcome::Accepted = examined else {
+        return examined;
+    };
+    if bytes != job_length(header) {
+        return Outcome::Refused {
+            reason: Reason::ByteCount,
+            row: 0,
+        };
     }
-    let header = read_header(job);
     let bounds = header.bounds;
-    if header.spare == 1 {
-        return HeaderCheck::Refused(Reason::SpareBit);
+    if bounds.rows < rows_needed(header) {
+        return Outcome::Refused {
+            reason: Reason::TooFewRows,
+            row: 0,
+        };
     }
-    if job.len() != job_length(bounds) {
-        return HeaderCheck::Refused(Reason::ByteCount);
-    }
-    if bounds.rows < rows_needed(bounds) {
-        return HeaderCheck::Refused(Reason::TooFewRows);
-    }
-    HeaderCheck::Passed(bounds)
+    Outcome::Accepted
 }

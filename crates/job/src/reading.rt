@@ -1,15 +1,16 @@
 // A job as a whole.
 ghost use mathlib.Core.Path.{_≡_};
 ghost use lib.ListN.{length};
-ghost use Rattle.header.specs.Header.{boundsOf, jobLengthOf, Narrow};
+ghost use Rattle.header.specs.Header.{headerOf, jobLengthOf, NarrowHeader};
 ghost use Rattle.job.specs.Refusals.{outcomeOfRows};
 ghost use Rattle.job.specs.Reading.{refusedReading, readingWith, readingOf};
-use crate::header_check::HeaderCheck;
 use crate::header_check::check_header;
 use field::Prime;
 use format::Bounds;
 use format::Outcome;
 use format::Reason;
+use header::Header;
+use header::read_header;
 use row_search::Found;
 use row_search::first_out_of_range;
 use row_search::first_repeated;
@@ -31,11 +32,12 @@ fn refused(reason: Reason, row: u32) -> Reading
         reason: reason,
         row: row,
     };
+    let numerators = [0usize; 4];
     let bounds = Bounds {
         prime: Prime::P7,
         outputs: 0,
         rows: 0,
-        df: 0,
+        numerators: numerators,
         dg: 0,
         errors: 0,
     };
@@ -49,16 +51,17 @@ fn refused(reason: Reason, row: u32) -> Reading
     }
 }
 
-// Tests 5 to 7, where 1 to 4 do not apply.
-fn read_body(job: &[u8], bounds: Bounds, area: usize) -> Reading
-    requires { ⌜ (bounds ≡ boundsOf (now job)) × Narrow bounds × (length (now job) ≡ jobLengthOf bounds) ⌝ }
+// Tests 5 to 7, where the earlier ones do not apply.
+fn read_body(job: &[u8], header: Header, area: usize) -> Reading
+    requires { ⌜ (header ≡ headerOf (now job)) × NarrowHeader header × (length (now job) ≡ jobLengthOf header) ⌝ }
     ensures { λ r. ⌜ r ≡ readingWith (outcomeOfRows (now (job .entry)) area) (now (job .entry)) ⌝ }
 {
+    let bounds = header.bounds;
     let count = bounds.rows;
     let outputs = bounds.outputs;
     let prime = bounds.prime;
     let p = field::modulus(prime);
-    let rows = read_rows(job, count, outputs);
+    let rows = read_rows(job, header.length, count, outputs);
     let points = rows.points;
     let values = rows.values;
     match first_out_of_range(&points, &values, count, outputs, p) {
@@ -85,12 +88,13 @@ fn read_body(job: &[u8], bounds: Bounds, area: usize) -> Reading
     }
 }
 
-// Reads a job; area is the length of the answer area. The tests run in the order of their numbers.
+// Reads a job; area is the length of the answer area. The tests run in their order.
 pub fn read(job: &[u8], area: usize) -> Reading
     ensures { λ r. ⌜ r ≡ readingOf (now (job .entry)) area ⌝ }
 {
-    match check_header(job) {
-        HeaderCheck::Refused(reason) => refused(reason, 0),
-        HeaderCheck::Passed(bounds) => read_body(job, bounds, area),
+    let header = read_header(job);
+    if let Outcome::Refused { reason, row } = check_header(job.len(), header) {
+        return refused(reason, row);
     }
+    read_body(job, header, area)
 }

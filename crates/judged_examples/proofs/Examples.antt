@@ -1,4 +1,5 @@
 -- From what the recovery settles on each job of the table.
+use native.Mathlib.Omega.{arith}
 use mathlib.Core.Path.{_≡_, refl, sym, _∙_}
 use mathlib.Core.List.{List, [], _∷_}
 use Prim.Native.Nat.{ℕ}
@@ -29,7 +30,7 @@ entry-judged e holds writes a j J =
     record {
       answered = λ z. ((λ y. claim .answered z .0 y ∙ bytes), λ same. claim .answered z .1 (same ∙ sym bytes));
       unsolvable = claim .unsolvable;
-      refused = claim .refused;
+      refused = λ positive low. claim .refused positive (λ seven. omega arith) (λ eight. omega arith);
     }
 
 all-judged : (es : List Example) → EveryHolds es → EveryWrites es → EveryJudged es

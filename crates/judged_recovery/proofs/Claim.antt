@@ -48,15 +48,15 @@ module _ (s a : List ℕ) {j : JudgementReport} (J : Judged s a j) (area : List 
   in-form-if (inr e) = form-accepted s (length area) (S .eight .0 e .0)
 
   -- the job's own refusals
-  refused-alike : 0 < r .refusal → r .refusal < 7 → j ≡ unjudgedReport (r .refusal) (r .row)
-  refused-alike positive low = by (S .cases)
+  refused-alike : 0 < r .refusal → (r .refusal ≡ 7 → ⊥) → (r .refusal ≡ 8 → ⊥) → j ≡ unjudgedReport (r .refusal) (r .row)
+  refused-alike positive not-7 not-8 = by (S .cases)
     where
       by : RefusedEarly s area r after ⊎ (Answered s area r after ⊎ RefusedUnsolvable s area r after) → j ≡ unjudgedReport (r .refusal) (r .row)
       by (inr (inl A)) = absurd (let e = ap (λ t. t .refusal) (A .report) in omega arith)
-      by (inr (inr none)) = absurd (let e = ap (λ t. t .refusal) (none .report) in omega arith)
+      by (inr (inr none)) = absurd (not-8 (ap (λ t. t .refusal) (none .report)))
       by (inl early) =
           let e = ap (λ t. t .refusal) (early .report) in
-          let same = form-refused s (length area) (omega arith) (omega arith) in
+          let same = form-refused s (length area) (omega arith) (λ seven. not-7 (e ∙ seven)) in
           judged-unique s a J (settle-malformed s a (λ wf. early .malformed (same ∙ wf)))
           ∙ ap (λ t. unjudgedReport (t .refusal) (t .row)) (sym (early .report ∙ ap reportOf same))
 

@@ -20,7 +20,6 @@ use Rattle.word.proofs.Words.{word-same, bit-exactly}
 use Rattle.word.proofs.Marks.{count-of-word}
 use Rattle.answer.specs.Bytes.{fourBytes, answerBytes, numeratorStart, overwritten}
 use Rattle.coefficients.specs.Coefficients.{coefficientLengthOf, anyTooLarge}
-use Rattle.coefficients.proofs.Places.{start-is}
 use Rattle.coefficients.proofs.Ranges.{coefficient-at, coefficient-above, not-large, denominator-bounded, numerator-bounded, none-large}
 use Rattle.coefficients.proofs.Written.{Bytes, coefficients-written}
 use Rattle.judge.specs.Rows.{wrongRowAt}
@@ -112,18 +111,18 @@ module _ (s a : List ℕ) (size : length a ≡ answerLengthOf (boundsOf s)) wher
     same-denominator k (inr l) =
         A .within .denominator .within k l ∙ sym (coefficient-above (drop 4 a) 0 (b .dg + 1) (let d = narrow s .dg-most in omega arith) k l)
 
-    fits : (i : ℕ) → numeratorBoundOf b i + 1 ≤ 32
-    fits i = let n = storable s .numerators-low i in omega arith
+    fits : (i : ℕ) → i < b .outputs → numeratorBoundOf b i + 1 ≤ 32
+    fits i l = let n = storable s .numerators-low i l in omega arith
 
     same-numerator : (i : ℕ) → i < b .outputs → (k : ℕ) → (k < numeratorBoundOf b i + 1) ⊎ (numeratorBoundOf b i + 1 ≤ k) → at (f' i) k ≡ at (f i) k
     same-numerator i li k (inl l) =
         let from = numeratorStart b i - 4 in
-        let place : 4 + (from + 2 * k) ≡ numeratorStart b i + 2 * k = omega (arith, start-is b i) in
-        sym (coefficient-at (drop 4 a) from (numeratorBoundOf b i + 1) (fits i) k l ∙ number-behind-word a (from + 2 * k)
+        let place : 4 + (from + 2 * k) ≡ numeratorStart b i + 2 * k = omega arith in
+        sym (coefficient-at (drop 4 a) from (numeratorBoundOf b i + 1) (fits i li) k l ∙ number-behind-word a (from + 2 * k)
         ∙ ap (numberFrom a) place ∙ numerator-written s f' g' [] a alone (A .within) i k li (omega arith))
     same-numerator i li k (inr l) =
         A .within .numerators i li .within k l
-        ∙ sym (coefficient-above (drop 4 a) (numeratorStart b i - 4) (numeratorBoundOf b i + 1) (fits i) k l)
+        ∙ sym (coefficient-above (drop 4 a) (numeratorStart b i - 4) (numeratorBoundOf b i + 1) (fits i li) k l)
 
     pub listed-same : Same (b .outputs) f' g' f g
     listed-same = record {

@@ -49,7 +49,7 @@ module _ (s a : List ℕ) where
     pub settle-no : length a ≡ answerLengthOf (boundsOf s) → (OfAnswer s a → ⊥) → Judged s a noReport
     settle-no size wrong = judged (inr (inr (inr (record { in-form = in-form; right-length = size; wrong = wrong; report = refl }))))
 
-  -- tests 1 to 6 as the code runs them, with an area of 254 bytes
+  -- the tests before 7 as the code runs them, with an area of 254 bytes
   form : outcomeOf s 254 ≡ outcomeOf s (answerLengthOf (boundsOf s))
   form = form-same s 254 (le-refl 254)
 

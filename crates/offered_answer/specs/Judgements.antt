@@ -29,7 +29,7 @@ judgementReportOf Yes = yesReport
 judgementReportOf No = noReport
 judgementReportOf (Refused reason row) = unjudgedReport (numberOf reason) row
 
--- "1 to 6 as for the job": what its tests say with an area just as long as its answer, which 7 does not refuse
+-- "1 to 6 as for the job", with 11 in the place of 2 since item 5: what its tests say with an area just as long as its answer, which 7 does not refuse
 abbrev pub formOf : List ℕ → Report
 formOf s = reportOf (outcomeOf s (answerLengthOf (boundsOf s)))
 
@@ -42,7 +42,7 @@ InForm s = WellFormed s (answerLengthOf (boundsOf s))
 abbrev pub OfAnswer : (s a : List ℕ) → Type 0
 OfAnswer s a = (f : ℕ → List ℕ) × (g : List ℕ) × Answer s f g × (a ≡ recoveredBytes s f g)
 
--- one of tests 1 to 6 refuses the job: its number and row are reported
+-- one of the tests before 7 refuses the job: its number and row are reported
 pub record JobRefused (s : List ℕ) (r : JudgementReport) : Type 0 where
   pub malformed : InForm s → ⊥
   pub report : r ≡ unjudgedReport (formOf s .refusal) (formOf s .row)

@@ -12,7 +12,7 @@ use Rattle.answer.specs.Bytes.{answerBytes}
 use Rattle.problem.specs.Rows.{wrongRow}
 use Rattle.problem.specs.Reduced.{Reduced}
 
--- coefficients from 0 to p - 1, and degrees within df and dg; "The zero polynomial meets every degree bound"
+-- coefficients from 0 to p - 1, and degrees within each output's bound and dg; "The zero polynomial meets every degree bound"
 pub record Within (b : Bounds) (f : ℕ → List ℕ) (g : List ℕ) : Type 0 where
   pub numerators : (i : ℕ) → i < b .outputs → Bounded (primeOf b) (numeratorBoundOf b i + 1) (f i)
   pub denominator : Bounded (primeOf b) (b .dg + 1) g

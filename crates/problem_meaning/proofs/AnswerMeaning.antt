@@ -23,7 +23,7 @@ use Rattle.poly_meaning.proofs.Series.{series-at, series-below, residue-mod, re
 use Rattle.header.specs.Header.{boundsOf}
 use Rattle.rows.specs.Rows.{jobPoint, jobValue, jobPoints, jobValues}
 use Rattle.rows.proofs.Entries.{points-at, values-at}
-use Rattle.job.proofs.Facts.{WellFormedFacts}
+use Rattle.job.proofs.Facts.{WellFormedFacts, each-enough}
 use Rattle.word.specs.Word.{flagOf, countBelow}
 use Rattle.problem.proofs.Rows.{right-all, all-right}
 use Rattle.problem.specs.Reduced.{Reduced}
@@ -62,7 +62,7 @@ module _ (s : List ℕ) {area : ℕ} (W : WellFormedFacts s area) where
   sized = record {
     outputs = W .fields .outputs-most;
     rows = W .fields .rows-most;
-    enough = λ i. W .enough-rows;
+    enough = each-enough W;
   }
 
   pub usable : Usable (boundsOf s) (jobPoints s)
@@ -85,7 +85,7 @@ module _ (s : List ℕ) {area : ℕ} (W : WellFormedFacts s area) where
     gs = poly (boundsOf s) g
 
     value-f : (i : ℕ) → i < boundsOf s .outputs → (x : ℕ) → ρ (valueOf p x (f i)) ≡ value (R (boundsOf s)) 32 (fs i) (ρ x)
-    value-f i li x = value-means-bounded p (P (boundsOf s)) 32 x (within .numerators i li) (let n = W .fields .df-most in omega arith)
+    value-f i li x = value-means-bounded p (P (boundsOf s)) 32 x (within .numerators i li) (let n = each-enough W i in let l = W .fields .rows-most in omega arith)
 
     pub value-g : (x : ℕ) → ρ (valueOf p x g) ≡ value (R (boundsOf s)) 32 gs (ρ x)
     value-g x = value-means-bounded p (P (boundsOf s)) 32 x (within .denominator) (let n = W .fields .dg-most in omega arith)

@@ -7,11 +7,12 @@ use native.Mathlib.Omega.{arith}
 use lib.ListN.{length, drop, length-append}
 use lib.Seq.{length-take-le}
 use Rattle.format.specs.declared.Bounds.{Bounds}
+use Rattle.format.specs.Bounds.{largestBound}
 use Rattle.format.specs.declared.Outcome.{Outcome}
 use Rattle.format.specs.Outcomes.{reportOf}
 use Rattle.format.specs.declared.Outcome.the-variants.{Accepted, Recovered, Refused}
 use Rattle.header.specs.Header.{boundsOf}
-use Rattle.header.proofs.Fields.{narrow}
+use Rattle.header.proofs.Fields.{storable}
 use Rattle.job.specs.Refusals.{outcomeOf}
 use Rattle.job.specs.Reading.{readingWith, readingOf}
 use Rattle.answer.specs.Bytes.{overwritten}
@@ -24,12 +25,11 @@ use Rattle.recover.specs.Printed.{textFor, Printed}
 
 -- the bounds of a reading, whatever its outcome
 reading-storable : (s : List ℕ) (room : ℕ) → isStorable (readingOf s room .bounds) ≡ true
+unfolding largestBound
 reading-storable s room = by-outcome (outcomeOf s room)
   where
     by-outcome : (outcome : Outcome) → isStorable (readingWith outcome s .bounds) ≡ true
-    by-outcome Accepted =
-        let fields = narrow s in
-        true-storable (boundsOf s) (record { few = fields .outputs-most; denominator-low = fields .dg-most; numerators-low = λ i. fields .df-most })
+    by-outcome Accepted = true-storable (boundsOf s) (storable s)
     by-outcome (Recovered bytes wrong) = refl
     by-outcome (Refused reason row) = refl
 

@@ -29,9 +29,9 @@ fn print(bytes: &[u8]) {
     io::write_all(STDOUT_FILENO, &buffer[..count]);
 }
 
-// A job has at most 313 bytes; one more is read, so that a longer input is refused.
+// A job has at most 317 bytes; one more is read, so that a longer input is refused.
 fn main() {
-    let mut bytes = [0u8; 314];
+    let mut bytes = [0u8; 318];
     let count = io::read_full(STDIN_FILENO, &mut bytes);
     print(&bytes[..count]);
 }

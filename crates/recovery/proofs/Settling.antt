@@ -42,7 +42,7 @@ module _ (s area : List ℕ) where
     where
       early : RefusedEarly s area r after → Early (outcomeOf s (length area)) → r .refusal ≡ 8 → ⊥
       early e (inl accepted) n = e .malformed accepted
-      early e (inr number) n = let same = ap (λ t. t .refusal) (e .report) in omega (arith, number .1)
+      early e (inr number) n = let same = ap (λ t. t .refusal) (e .report) in let eleven = number .2 (omega arith) in omega arith
 
       by : RefusedEarly s area r after ⊎ (Answered s area r after ⊎ RefusedUnsolvable s area r after)
           → (r .refusal ≡ 8) ↔ (WellFormed s (length area) × Unsolvable s)

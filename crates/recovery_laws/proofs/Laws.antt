@@ -7,7 +7,7 @@ use Prim.Native.Nat.{ℕ, _≤_, _<_}
 use native.Mathlib.Decide.{decLt}
 use native.Mathlib.Omega.{arith}
 use lib.ListN.{length}
-use Rattle.format.specs.declared.Reason.the-variants.{TooManyRows, NotReduced}
+use Rattle.format.specs.declared.Reason.the-variants.{SpareBit, TooManyRows, NotReduced}
 use Rattle.format.specs.declared.Outcome.{Outcome}
 use Rattle.format.specs.declared.Outcome.the-variants.{Accepted, Recovered, Refused}
 use Rattle.format.specs.declared.Report.{Report}
@@ -69,19 +69,25 @@ module _ (s area : List ℕ) where
       by (inr (inl A)) o = inr (let same = ap (λ t. t .written) (A .report) in omega arith)
       by (inr (inr u)) o = inl (let same = ap (λ t. t .refusal) (u .report) in omega arith)
 
-  -- its refusals are those of paper 01's table, numbered up to 8
-  pub refusal-most : {r : Report} {after : List ℕ} → Settled s area r after → r .refusal ≤ 8
-  refusal-most {r} {after} S = by (S .cases) (outcome-early s (length area))
+  -- its refusals are those of paper 01's table, numbered up to 8, but for 2, and paper 02's 11
+  pub refusals-given : {r : Report} {after : List ℕ} → Settled s area r after → (r .refusal ≡ 2 → ⊥) × (8 < r .refusal → r .refusal ≡ 11)
+  refusals-given {r} {after} S = by (S .cases) (outcome-early s (length area))
     where
-      by : RefusedEarly s area r after ⊎ (Answered s area r after ⊎ RefusedUnsolvable s area r after) → Early (outcomeOf s (length area)) → r .refusal ≤ 8
+      by : RefusedEarly s area r after ⊎ (Answered s area r after ⊎ RefusedUnsolvable s area r after) → Early (outcomeOf s (length area))
+          → (r .refusal ≡ 2 → ⊥) × (8 < r .refusal → r .refusal ≡ 11)
       by (inl e) (inl accepted) = absurd (e .malformed accepted)
-      by (inl e) (inr number) = let same = ap (λ t. t .refusal) (e .report) in omega (arith, number .1)
-      by (inr (inl A)) o = let same = ap (λ t. t .refusal) (A .report) in omega arith
-      by (inr (inr u)) o = let same = ap (λ t. t .refusal) (u .report) in omega arith
+      by (inl e) (inr number) =
+          let same = ap (λ t. t .refusal) (e .report) in
+          (λ two. number .1 (sym same ∙ two), λ high. same ∙ number .2 (omega arith))
+      by (inr (inl A)) o = let same = ap (λ t. t .refusal) (A .report) in (λ two. omega arith, λ high. absurd (omega arith))
+      by (inr (inr u)) o = let same = ap (λ t. t .refusal) (u .report) in (λ two. omega arith, λ high. absurd (omega arith))
 
-  -- so `recover` never returns TooManyRows or NotReduced, which are paper 02's 9 and 10
+  -- so `recover` never returns SpareBit, which is 2, and TooManyRows or NotReduced, which are paper 02's 9 and 10
+  pub never-2 : (row : ℕ) {after : List ℕ} → Settled s area (reportOf (Refused SpareBit row)) after → ⊥
+  never-2 row S = refusals-given S .0 refl
+
   pub never-later : (row : ℕ) {after : List ℕ} → (Settled s area (reportOf (Refused TooManyRows row)) after → ⊥) × (Settled s area (reportOf (Refused NotReduced row)) after → ⊥)
-  never-later row = (λ S. (let most = refusal-most S in omega arith), λ S. (let most = refusal-most S in omega arith))
+  never-later row = (λ S. (let eleven = refusals-given S .1 (omega arith) in omega arith), λ S. (let eleven = refusals-given S .1 (omega arith) in omega arith))
 
   -- and the enum that `recover` returns is determined
   pub outcome-unique : {o o' : Outcome} {after after' : List ℕ} → Settled s area (reportOf o) after → Settled s area (reportOf o') after' → o ≡ o'

@@ -11,7 +11,7 @@ use lib.Dec.{ltb}
 use lib.ListN.{getD, set, take, drop}
 use lib.Seq.{getD-take, getD-drop}
 use Rattle.format.specs.Numbers.{numberFrom}
-use Rattle.header.specs.Header.{boundsOf}
+use Rattle.header.specs.Header.{headerLengthOf, boundsOf}
 use Rattle.rows.specs.Rows.{numberAt, valueOrZero}
 use Rattle.rows.specs.Steps.{rowOf, rowAt}
 use Rattle.lists.proofs.Tabulated.{at-tabulate, tabulate-cong}
@@ -19,8 +19,8 @@ use Rattle.lists.proofs.Filling.{Filled, filled-more}
 use Rattle.lists.proofs.Order.{lt-or-ge}
 
 -- a row ends before the job does; m numbers make a row
-pub row-ends : (r rows m : ℕ) → r < rows → 3 + 2 * (r * m) + 2 * m ≤ 3 + 2 * rows * m
-row-ends r rows m l =
+pub row-ends : (start r rows m : ℕ) → r < rows → start + 2 * (r * m) + 2 * m ≤ start + 2 * rows * m
+row-ends start r rows m l =
     let h : suc r * m ≤ rows * m = mul-le-mul-right m l in
     omega (arith, h, suc-mul r m, mul-assoc 2 rows m)
 
@@ -32,13 +32,13 @@ number-part s a w k l =
 
 module _ (s : List ℕ) (r : ℕ) where
   part : List ℕ
-  part = take (2 * (1 + boundsOf s .outputs)) (drop (3 + 2 * (r * (1 + boundsOf s .outputs))) s)
+  part = take (2 * (1 + boundsOf s .outputs)) (drop (headerLengthOf s + 2 * (r * (1 + boundsOf s .outputs))) s)
 
   column : (c : ℕ) → c ≤ boundsOf s .outputs → numberFrom part (2 * c) ≡ numberAt s r c
   unfolding part numberAt
   column c l =
       let n = boundsOf s .outputs in
-      number-part s (3 + 2 * (r * (1 + n))) (2 * (1 + n)) (2 * c) (omega arith) ∙ ap (numberFrom s) (omega arith)
+      number-part s (headerLengthOf s + 2 * (r * (1 + n))) (2 * (1 + n)) (2 * c) (omega arith) ∙ ap (numberFrom s) (omega arith)
 
   value : (i : ℕ) → (i < boundsOf s .outputs) ⊎ (boundsOf s .outputs ≤ i)
       → cond (ltb i (boundsOf s .outputs)) (numberFrom part (2 * (1 + i))) 0 ≡ valueOrZero s r i
@@ -50,12 +50,12 @@ module _ (s : List ℕ) (r : ℕ) where
   row-here = λ i. record { point = column 0 (omega arith) i; values = tabulate-cong 4 _ _ (λ k l. value k (lt-or-ge k (boundsOf s .outputs))) i }
 
   -- the row's own bytes, from its start to its end, are the row
-  pub row-part : (n : ℕ) → n ≡ boundsOf s .outputs
-      → rowOf (take (3 + 2 * (r * (1 + n)) + 2 * (1 + n) - (3 + 2 * (r * (1 + n)))) (drop (3 + 2 * (r * (1 + n))) s)) n ≡ rowAt s r
+  pub row-part : (start n : ℕ) → start ≡ headerLengthOf s → n ≡ boundsOf s .outputs
+      → rowOf (take (start + 2 * (r * (1 + n)) + 2 * (1 + n) - (start + 2 * (r * (1 + n)))) (drop (start + 2 * (r * (1 + n))) s)) n ≡ rowAt s r
   unfolding part
-  row-part n e =
-      let size : 3 + 2 * (r * (1 + n)) + 2 * (1 + n) - (3 + 2 * (r * (1 + n))) ≡ 2 * (1 + n) = omega arith in
-      rw size (subst (λ (m : ℕ). rowOf (take (2 * (1 + m)) (drop (3 + 2 * (r * (1 + m))) s)) m ≡ rowAt s r) (sym e) row-here)
+  row-part start n first e =
+      let size : start + 2 * (r * (1 + n)) + 2 * (1 + n) - (start + 2 * (r * (1 + n))) ≡ 2 * (1 + n) = omega arith in
+      rw (size, first, e) row-here
 
   -- the row's values, by their places among the values of all rows
   pub row-values : (i : ℕ) → i < 4 → getD (rowAt s r .values) i 0 ≡ valueOrZero s ((r * 4 + i) / 4) ((r * 4 + i) % 4)

@@ -4,12 +4,12 @@ use mathlib.Core.Bool.{cond}
 use mathlib.Core.List.{List}
 use lib.Dec.{ltb}
 use Rattle.format.specs.Numbers.{numberFrom}
-use Rattle.header.specs.Header.{boundsOf}
+use Rattle.header.specs.Header.{headerLengthOf, boundsOf}
 use Rattle.lists.specs.Tabulated.{tabulate}
 
--- the number in row r and column c: column 0 is the point, columns 1 to n are the values
+-- the number in row r and column c, behind the header: column 0 is the point, columns 1 to n are the values
 unfoldable pub numberAt : List ℕ → ℕ → ℕ → ℕ
-numberAt s r c = numberFrom s (3 + 2 * (r * (1 + boundsOf s .outputs) + c))
+numberAt s r c = numberFrom s (headerLengthOf s + 2 * (r * (1 + boundsOf s .outputs) + c))
 
 -- the point of row r, counted from 0
 abbrev pub jobPoint : List ℕ → ℕ → ℕ

@@ -3,7 +3,7 @@ ghost use Prim.Native.Nat.{_+_, _*_, _<_, _≤_};
 ghost use mathlib.Core.Path.{_≡_};
 ghost use lib.ListN.{length};
 ghost use Rattle.format.specs.Numbers.{numberFrom};
-ghost use Rattle.header.specs.Header.{boundsOf};
+ghost use Rattle.header.specs.Header.{headerLengthOf, boundsOf};
 ghost use Rattle.rows.specs.Rows.{jobPoints, jobValues};
 ghost use Rattle.rows.specs.Steps.{rowOf, rowAt};
 use cursor::wide;
@@ -76,27 +76,27 @@ fn read_row(bytes: &[u8], outputs: usize) -> Row
     read_long_row(bytes, outputs)
 }
 
-// Row r of the job, read through its own bytes.
-pub fn row_at(job: &[u8], r: usize, rows: usize, outputs: usize) -> Row
-    requires { ⌜ (r < rows) × (rows ≤ 31) × (outputs ≤ 4) × (length (now job) ≡ 3 + 2 * rows * (1 + outputs)) ⌝ }
-    requires { ⌜ outputs ≡ boundsOf (now job) .outputs ⌝ }
+// Row r of the job, read through its own bytes; the rows begin at a byte called start.
+pub fn row_at(job: &[u8], start: usize, r: usize, rows: usize, outputs: usize) -> Row
+    requires { ⌜ (start ≤ 7) × (r < rows) × (rows ≤ 31) × (outputs ≤ 4) × (length (now job) ≡ start + 2 * rows * (1 + outputs)) ⌝ }
+    requires { ⌜ (start ≡ headerLengthOf (now job)) × (outputs ≡ boundsOf (now job) .outputs) ⌝ }
     ensures { λ row. ⌜ row ≡ rowAt (now (job .entry)) r ⌝ }
 {
-    let from = 3 + 2 * (r * (1 + outputs));
+    let from = start + 2 * (r * (1 + outputs));
     let to = from + 2 * (1 + outputs);
     read_row(&job[from..to], outputs)
 }
 
 // All rows of a job whose length fits its header.
-pub fn read_rows(job: &[u8], rows: usize, outputs: usize) -> Rows
-    requires { ⌜ (rows ≤ 31) × (outputs ≤ 4) × (length (now job) ≡ 3 + 2 * rows * (1 + outputs)) ⌝ }
-    requires { ⌜ (rows ≡ boundsOf (now job) .rows) × (outputs ≡ boundsOf (now job) .outputs) ⌝ }
+pub fn read_rows(job: &[u8], start: usize, rows: usize, outputs: usize) -> Rows
+    requires { ⌜ (start ≤ 7) × (rows ≤ 31) × (outputs ≤ 4) × (length (now job) ≡ start + 2 * rows * (1 + outputs)) ⌝ }
+    requires { ⌜ (start ≡ headerLengthOf (now job)) × (rows ≡ boundsOf (now job) .rows) × (outputs ≡ boundsOf (now job) .outputs) ⌝ }
     ensures { λ x. ⌜ (x .points ≡ jobPoints (now (job .entry))) × (x .values ≡ jobValues (now (job .entry))) ⌝ }
 {
     let mut points = [0u32; 32];
     let mut values = [0u32; 128];
     for r in 0..rows {
-        let row = row_at(job, r, rows, outputs);
+        let row = row_at(job, start, r, rows, outputs);
         let v = row.values;
         let at = r * 4;
         points[r] = row.point;

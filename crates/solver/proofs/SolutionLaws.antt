@@ -22,7 +22,7 @@ pub storable : {b : Bounds} → Sized b → Storable b
 storable s = record {
   few = s .outputs;
   denominator-low = (let h = denominator-low s in omega arith);
-  numerators-low = λ i. (let h = numerator-low s i in omega arith);
+  numerators-low = λ i l. (let h = numerator-low s i in omega arith);
 }
 
 pub fits-judge : {b : Bounds} {c : Candidate} → Fitting b c → Within b (coefficientsAt (c .f)) (c .g .c)

@@ -49,7 +49,7 @@ module _ (s : List ℕ) (bytes : (k : ℕ) → getD s k 0 < 256) where
       let line = line-items (coefficientFrom s start) (coefficient-low start) bound h in
       simp length-append (omega arith)
 
-  output-lines : (b : Bounds) → Storable b → (n : ℕ) → n ≤ 4 → length (outputLines b s n) ≤ 195 * n
+  output-lines : (b : Bounds) → Storable b → (n : ℕ) → n ≤ b .outputs → length (outputLines b s n) ≤ 195 * n
   unfolding outputLines
   output-lines b fits zero few = omega arith
   output-lines b fits (suc i) few =
@@ -59,7 +59,7 @@ module _ (s : List ℕ) (bytes : (k : ℕ) → getD s k 0 < 256) where
         arith,
         length-append (outputLines b s i) (outputLineFrom s i start bound),
         output-lines b fits i (omega arith),
-        output-line i start bound (omega arith) (omega (arith, fits .numerators-low i)),
+        output-line i start bound (omega (arith, fits .few)) (omega (arith, fits .numerators-low i few)),
       )
 
   pub recovered-short : (b : Bounds) → Storable b → (wrong : ℕ) → wrong < 2 ^ 32 → length (recoveredText b wrong s) < textRoom
@@ -67,7 +67,7 @@ module _ (s : List ℕ) (bytes : (k : ℕ) → getD s k 0 < 256) where
       let count = decimal-few wrong 9 (omega arith) in
       let rows = row-items 32 0 (marked (wordFrom s)) (omega arith) in
       let line = line-items (coefficientFrom s 4) (coefficient-low 4) (b .dg) (omega (arith, fits .denominator-low)) in
-      let outputs = output-lines b fits (b .outputs) (fits .few) in
+      let outputs = output-lines b fits (b .outputs) (omega arith) in
       let few = fits .few in
       simp length-append (omega arith)
 

@@ -9,6 +9,7 @@ use lib.Dec.{eqb}
 use borrow.Author.Tests.{eq-eqb, ne-eqb}
 use Rattle.format.specs.declared.Bounds.{Bounds}
 use Rattle.format.specs.Bounds.{numeratorBoundOf}
+use Rattle.format.proofs.Sizes.{count-next}
 use Rattle.answer.specs.Bytes.{numeratorStart}
 use Rattle.text.specs.Decimal.{itemOf}
 use Rattle.text.specs.Lines.{degreeWithin, itemsBelow, outputLineFrom, outputLines}
@@ -40,8 +41,7 @@ module _ (c : ℕ → ℕ) where
 -- one output more
 module _ (b : Bounds) (i : ℕ) where
   pub next-start : numeratorStart b (i + 1) ≡ numeratorStart b i + 2 * (numeratorBoundOf b i + 1)
-  unfolding numeratorStart
-  next-start = rw add-one
+  next-start = omega (arith, count-next b i)
 
   pub next-line : (s : List ℕ) → outputLines b s (i + 1) ≡ outputLines b s i ++ outputLineFrom s i (numeratorStart b i) (numeratorBoundOf b i)
   unfolding outputLines

@@ -2,12 +2,11 @@
 use Prim.Native.Nat.{ℕ, zero, suc, _+_, _≤_, _<_}
 use mathlib.Core.Path.{_≡_, refl, sym, ap, _∙_}
 use mathlib.Core.List.{List, [], _∷_, _++_, append-assoc, append-nil}
-use native.Mathlib.Nat.{zero-add, min-le-right, le-refl}
+use native.Mathlib.Nat.{min-le-right, le-refl}
 use native.Mathlib.Numerals.{add-one}
 use native.Mathlib.Omega.{arith}
-use lib.ListN.{length, getD, take, drop, set, length-append, length-take}
-use lib.Seq.{length-take-le, take-all, take-take, take-at, take-suc-set, paste, paste-suc}
-use Rattle.answer.specs.Bytes.{overwritten}
+use lib.ListN.{length, take, set, length-append, length-take}
+use lib.Seq.{length-take-le, take-all, take-take, take-at, take-suc-set}
 use Rattle.text.specs.Drafts.{textRoom}
 
 take-append-take : (n : ℕ) (a b : List ℕ) → take n (take n a ++ b) ≡ take n (a ++ b)
@@ -55,14 +54,3 @@ module _ (bytes : List ℕ) (whole : length bytes ≡ textRoom) where
       let least = length-take count bytes in
       let size = ap length exact in
       (exact, omega arith, omega arith)
-
-  -- a copy to the front of the old bytes
-  pub copy-next : (old now : List ℕ) (k : ℕ) → k < length old → k < textRoom → now ≡ paste old 0 bytes k
-      → set now k (getD bytes k 0) ≡ paste old 0 bytes (k + 1)
-  copy-next old now k room inside copied =
-      let place : 0 + k ≡ k = zero-add k in
-      ap (λ l. set l k (getD bytes k 0)) copied ∙ ap (λ j. set (paste old 0 bytes k) j (getD bytes k 0)) (sym place)
-      ∙ paste-suc old 0 bytes k 0 (omega arith) (omega arith) ∙ ap (paste old 0 bytes) (sym (add-one k))
-
-  pub copy-all : (old : List ℕ) (n : ℕ) → n ≤ textRoom → paste old 0 bytes n ≡ overwritten (take n bytes) old
-  copy-all old n inside = ap (λ k. take n bytes ++ drop k old) (zero-add n ∙ sym (length-take-le n bytes (omega arith)))

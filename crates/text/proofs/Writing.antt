@@ -9,28 +9,30 @@ use lib.ListN.{length}
 use borrow.Author.Tests.{lt-leb, le-leb, leb-true}
 use Rattle.format.specs.declared.Bounds.{Bounds}
 use Rattle.format.specs.declared.Outcome.{Outcome}
-use Rattle.format.specs.Bounds.{Storable}
+use Rattle.format.specs.Bounds.{largestBound, Storable}
+use Rattle.format.proofs.Sizes.{largest-above, largest-most}
 use Rattle.answer.specs.Bytes.{overwritten}
 use Rattle.text.specs.declared.Written.{Written}
 use Rattle.text.specs.declared.Written.the-variants.{Bytes, TooShort, Malformed}
 use Rattle.text.specs.Text.{textOf, isStorable, writtenOf, bufferAfter}
 
 -- what is left of the test where its first two parts hold
-pub storable-last : (b : Bounds) → b .outputs ≤ 4 → b .dg ≤ 31 → isStorable b ≡ leb (b .df) 31
+pub storable-last : (b : Bounds) → b .outputs ≤ 4 → b .dg ≤ 31 → isStorable b ≡ leb (largestBound b (b .outputs)) 31
 storable-last b few low =
-    ap₂ (λ x y. x && y && leb (b .df) 31) (le-leb (b .outputs) 4 few) (le-leb (b .dg) 31 low)
+    ap₂ (λ x y. x && y && leb (largestBound b (b .outputs)) 31) (le-leb (b .outputs) 4 few) (le-leb (b .dg) 31 low)
 
 pub true-storable : (b : Bounds) → Storable b → isStorable b ≡ true
-true-storable b fits = storable-last b (fits .few) (fits .denominator-low) ∙ le-leb (b .df) 31 (fits .numerators-low 0)
+true-storable b fits =
+    storable-last b (fits .few) (fits .denominator-low) ∙ le-leb (largestBound b (b .outputs)) 31 (largest-most b 31 (b .outputs) (fits .numerators-low))
 
 pub storable-true : (b : Bounds) → isStorable b ≡ true → Storable b
 storable-true b e =
-    let all = and-eq-true-iff (leb (b .outputs) 4 && leb (b .dg) 31) (leb (b .df) 31) .0 e in
+    let all = and-eq-true-iff (leb (b .outputs) 4 && leb (b .dg) 31) (leb (largestBound b (b .outputs)) 31) .0 e in
     let first = and-eq-true-iff (leb (b .outputs) 4) (leb (b .dg) 31) .0 (all .0) in
     record {
       few = leb-true (b .outputs) 4 (first .0);
       denominator-low = leb-true (b .dg) 31 (first .1);
-      numerators-low = λ i. leb-true (b .df) 31 (all .1);
+      numerators-low = λ i l. (let low = leb-true (largestBound b (b .outputs)) 31 (all .1) in omega (arith, largest-above b (b .outputs) i l));
     }
 
 module _ (b : Bounds) (outcome : Outcome) (s old : List ℕ) where

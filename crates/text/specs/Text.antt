@@ -5,6 +5,7 @@ use mathlib.Core.List.{List, [], _∷_, _++_}
 use lib.Dec.{leb}
 use lib.ListN.{length}
 use Rattle.format.specs.Numbers.{wordFrom}
+use Rattle.format.specs.Bounds.{largestBound}
 use Rattle.format.specs.declared.Bounds.{Bounds}
 use Rattle.format.specs.declared.Outcome.{Outcome}
 use Rattle.format.specs.declared.Outcome.the-variants.{Accepted, Recovered, Refused}
@@ -50,7 +51,7 @@ textOf b (Refused reason row) s = refusedText (numberOf reason) row
 
 -- at most 4 outputs, and degrees of at most 31, as every job has
 abbrev pub isStorable : Bounds → Bool
-isStorable b = leb (b .outputs) 4 && leb (b .dg) 31 && leb (b .df) 31
+isStorable b = leb (b .outputs) 4 && leb (b .dg) 31 && leb (largestBound b (b .outputs)) 31
 
 -- what the call answers, where the buffer has so many bytes
 abbrev pub writtenOf : Bounds → Outcome → List ℕ → ℕ → Written

@@ -41,7 +41,7 @@ fn storable(b: Bounds) -> bool
     if 31 < b.dg {
         return false;
     }
-    b.numerator_bound(0) <= 31
+    b.largest_bound(b.outputs) <= 31
 }
 
 // The text of an answer whose bytes stand in the area.

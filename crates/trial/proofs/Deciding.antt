@@ -4,13 +4,16 @@ use mathlib.Core.List.{List}
 use mathlib.Core.Path.{_≡_, refl}
 use Prim.Native.Nat.{ℕ}
 use Rattle.format.specs.declared.Bounds.{Bounds}
-use Rattle.format.specs.declared.Reason.the-variants.{TooShort, SpareBit, ByteCount, TooFewRows, OutOfRange, TooManyRows}
+use Rattle.format.specs.declared.Reason.the-variants.{TooShort, AddedHeader, ByteCount, TooFewRows, OutOfRange, TooManyRows}
 use Rattle.format.specs.declared.Outcome.{Outcome}
 use Rattle.format.specs.declared.Outcome.the-variants.{Refused}
 use Rattle.header.specs.Header.{boundsOf}
-use Rattle.job.specs.Refusals.{tooShort, spareBitIsOne, tooFewRows}
+use Rattle.header_rules.specs.Rules.{tooShort, addedHeaderBroken}
+use Rattle.header_rules.proofs.Rules.{twoTests}
+use Rattle.row_search.specs.Search.{ifHolds}
+use Rattle.job.specs.Refusals.{tooFewRows, refuse}
 use Rattle.coefficients.specs.Coefficients.{anyTooLarge}
-use Rattle.trial.specs.Refusals.{byteCountsDiffer, tooManyRows, testedNumbers, testedBefore}
+use Rattle.trial.specs.Refusals.{byteCountsDiffer, tooManyRows, testedNumbers, testedLengths, testedBefore}
 
 pub or-second : (a : Bool) {b : Bool} → b ≡ true → (a || b) ≡ true
 or-second true e = refl
@@ -31,25 +34,25 @@ module _ (b : Bounds) (c : List ℕ) (w : ℕ) (later : Outcome) where
     past-5 e = rw (not-9, e) refl
 
 module _ (h c : List ℕ) (w : ℕ) (later : Outcome) where
-  pub at-1 : tooShort h ≡ true → testedBefore h c w later ≡ Refused TooShort 0
-  unfolding testedBefore
-  at-1 e = rw e refl
+  pub at-3 : byteCountsDiffer h c ≡ true → testedLengths h c w later ≡ Refused ByteCount 0
+  unfolding testedLengths
+  at-3 e = rw e refl
 
-  module _ (not-1 : tooShort h ≡ false) where
-    pub at-2 : spareBitIsOne h ≡ true → testedBefore h c w later ≡ Refused SpareBit 0
-    unfolding testedBefore
-    at-2 e = rw (not-1, e) refl
+  module _ (not-3 : byteCountsDiffer h c ≡ false) where
+    pub at-4 : tooFewRows h ≡ true → testedLengths h c w later ≡ Refused TooFewRows 0
+    unfolding testedLengths
+    at-4 e = rw (not-3, e) refl
 
-    module _ (not-2 : spareBitIsOne h ≡ false) where
-      pub at-3 : byteCountsDiffer h c ≡ true → testedBefore h c w later ≡ Refused ByteCount 0
-      unfolding testedBefore
-      at-3 e = rw (not-1, not-2, e) refl
+    pub past-4 : tooFewRows h ≡ false → testedLengths h c w later ≡ testedNumbers (boundsOf h) c w later
+    unfolding testedLengths
+    past-4 e = rw (not-3, e) refl
 
-      module _ (not-3 : byteCountsDiffer h c ≡ false) where
-        pub at-4 : tooFewRows h ≡ true → testedBefore h c w later ≡ Refused TooFewRows 0
-        unfolding testedBefore
-        at-4 e = rw (not-1, not-2, not-3, e) refl
+two-decide : (a b : Bool) (later : Outcome) → twoTests a b later ≡ refuse TooShort (ifHolds a 0) (refuse AddedHeader (ifHolds b 0) later)
+two-decide true b later = refl
+two-decide false true later = refl
+two-decide false false later = refl
 
-        pub past-4 : tooFewRows h ≡ false → testedBefore h c w later ≡ testedNumbers (boundsOf h) c w later
-        unfolding testedBefore
-        past-4 e = rw (not-1, not-2, not-3, e) refl
+-- tests 1 and 11 come first
+pub two-first : (h c : List ℕ) (w : ℕ) (later : Outcome) → twoTests (tooShort h) (addedHeaderBroken h) (testedLengths h c w later) ≡ testedBefore h c w later
+unfolding testedBefore
+two-first h c w later = two-decide (tooShort h) (addedHeaderBroken h) (testedLengths h c w later)

@@ -1,41 +1,43 @@
 -- What the tests before 10 say where none of them applies, and that they either refuse or leave the word to the later ones.
+use mathlib.Core.Bool.{false}
 use mathlib.Core.List.{List}
 use mathlib.Core.Logic.{_⊎_, inl, inr}
 use mathlib.Core.Path.{_≡_, refl, sym, _∙_}
 use Prim.Native.Nat.{ℕ, _*_, _/_, _<_, _≤_}
-use borrow.Author.Tests.{eqb-true, eqb-false, ltb-false, not-false}
+use borrow.Author.Tests.{eqb-true, ltb-false, not-false}
 use lib.ListN.{length}
 use Rattle.format.specs.Bounds.{primeOf}
 use Rattle.format.specs.Numbers.{numberFrom}
 use Rattle.format.specs.declared.Reason.{Reason}
-use Rattle.format.specs.declared.Reason.the-variants.{TooShort, SpareBit, ByteCount, TooFewRows, OutOfRange, TooManyRows}
+use Rattle.format.specs.declared.Reason.the-variants.{TooShort, AddedHeader, ByteCount, TooFewRows, OutOfRange, TooManyRows}
 use Rattle.format.specs.declared.Outcome.{Outcome}
 use Rattle.format.specs.declared.Outcome.the-variants.{Accepted, Refused}
-use Rattle.cursor.specs.Bits.{headerOf}
-use Rattle.header.specs.Header.{boundsOf, spareBitOf, rowsNeededOf}
+use Rattle.header.specs.Header.{headerLengthOf, boundsOf, headerOf, rowsNeededOf}
+use Rattle.header_rules.specs.Rules.{tooShort, addedHeaderBroken}
+use Rattle.lists.proofs.Truth.{or-false}
 use Rattle.row_search.specs.Search.{ifHolds}
-use Rattle.job.specs.Refusals.{tooShort, spareBitIsOne, tooFewRows, refuse}
+use Rattle.job.specs.Refusals.{tooFewRows, refuse}
 use Rattle.job.proofs.Forms.{Decisive, refuse-decisive}
-use Rattle.job.proofs.Facts.{or-false, refused-not-accepted, passed, does-not-hold, two-values}
+use Rattle.job.proofs.Facts.{refused-not-accepted, passed, does-not-hold}
 use Rattle.coefficients.specs.Coefficients.{coefficientLengthOf, anyTooLarge}
 use Rattle.coefficients.proofs.Ranges.{not-large}
-use Rattle.trial.specs.Refusals.{byteCountsDiffer, tooManyRows, testedNumbers, testedBefore}
+use Rattle.trial.specs.Refusals.{byteCountsDiffer, tooManyRows, testedNumbers, testedLengths, testedBefore}
 
 -- where no test before 10 applies
 pub record TrialFacts (h c : List ℕ) (w : ℕ) : Type 0 where
-  pub header-bytes : length h ≡ 3
-  pub spare-bit : spareBitOf h ≡ 0
+  pub header-bytes : length h ≡ headerLengthOf h
+  pub rules : addedHeaderBroken h ≡ false
   pub coefficient-bytes : length c ≡ coefficientLengthOf (boundsOf h)
-  pub enough-rows : rowsNeededOf (boundsOf h) ≤ boundsOf h .rows
+  pub enough-rows : rowsNeededOf (headerOf h) ≤ boundsOf h .rows
   pub distinct-points : boundsOf h .rows ≤ primeOf (boundsOf h)
   pub few-spoiled : w ≤ boundsOf h .rows
   pub coefficients-in-range : (k : ℕ) → k < length c / 2 → numberFrom c (2 * k) < primeOf (boundsOf h)
 
 pub trial-facts : (h c : List ℕ) (w : ℕ) → testedBefore h c w Accepted ≡ Accepted → TrialFacts h c w
-unfolding testedBefore testedNumbers spareBitOf
+unfolding testedBefore testedLengths testedNumbers
 trial-facts h c w accepted =
     let t1 = passed TooShort (ifHolds (tooShort h) 0) _ accepted in
-    let t2 = passed SpareBit (ifHolds (spareBitIsOne h) 0) _ (t1 .1) in
+    let t2 = passed AddedHeader (ifHolds (addedHeaderBroken h) 0) _ (t1 .1) in
     let t3 = passed ByteCount (ifHolds (byteCountsDiffer h c) 0) _ (t2 .1) in
     let t4 = passed TooFewRows (ifHolds (tooFewRows h) 0) _ (t3 .1) in
     let t9 = passed TooManyRows (ifHolds (tooManyRows (boundsOf h) w) 0) _ (t4 .1) in
@@ -44,7 +46,7 @@ trial-facts h c w accepted =
     let rows = or-false _ _ (does-not-hold (tooManyRows (boundsOf h) w) (t9 .0)) in
     record {
       header-bytes = eqb-true _ _ (not-false _ (counts .0));
-      spare-bit = two-values (headerOf h) (eqb-false _ _ (does-not-hold (spareBitIsOne h) (t2 .0)));
+      rules = does-not-hold (addedHeaderBroken h) (t2 .0);
       coefficient-bytes = eqb-true _ _ (not-false _ (counts .1));
       enough-rows = ltb-false _ _ (does-not-hold (tooFewRows h) (t4 .0));
       distinct-points = ltb-false _ _ (rows .0);
@@ -58,10 +60,10 @@ AnyReason reason = Unit
 
 module _ (h c : List ℕ) (w : ℕ) where
   tested-decisive : Decisive AnyReason (testedBefore h c w)
-  unfolding testedBefore testedNumbers
+  unfolding testedBefore testedLengths testedNumbers
   tested-decisive =
       refuse-decisive AnyReason TooShort (ifHolds (tooShort h) 0) _ tt
-      (refuse-decisive AnyReason SpareBit (ifHolds (spareBitIsOne h) 0) _ tt
+      (refuse-decisive AnyReason AddedHeader (ifHolds (addedHeaderBroken h) 0) _ tt
       (refuse-decisive AnyReason ByteCount (ifHolds (byteCountsDiffer h c) 0) _ tt
       (refuse-decisive AnyReason TooFewRows (ifHolds (tooFewRows h) 0) _ tt
       (refuse-decisive AnyReason TooManyRows (ifHolds (tooManyRows (boundsOf h) w) 0) _ tt

@@ -15,7 +15,7 @@ use Rattle.format.specs.declared.Writing.the-variants as writing
 use Rattle.format.specs.declared.WritingReport.{WritingReport}
 use Rattle.format.specs.Outcomes.{numberOf, refusedWriting, writtenReport, writingReportOf}
 use Rattle.format.proofs.Numbers.{number-positive, number-injective}
-use Rattle.header.specs.Header.{boundsOf, jobLengthOf}
+use Rattle.header.specs.Header.{headerOf, jobLengthOf}
 use Rattle.answer.specs.Bytes.{overwritten}
 use Rattle.trial.specs.Refusals.{jobAreaTooShort, testedBefore, trialOutcome}
 use Rattle.trial.specs.Trial.{trialJob, TrialReduced, trialReport, trialArea, Trial}
@@ -25,8 +25,8 @@ use Rattle.trial.proofs.Facts.{accepted-or-refused, refused-whatever, a
 pub record Wrote (h c : List ℕ) (start w : ℕ) (area : List ℕ) (r : WritingReport) (after : List ℕ) : Type 0 where
   pub passes : testedBefore h c w Accepted ≡ Accepted
   pub reduced : TrialReduced h c
-  pub enough : jobLengthOf (boundsOf h) ≤ length area
-  pub report : r ≡ writtenReport (jobLengthOf (boundsOf h))
+  pub enough : jobLengthOf (headerOf h) ≤ length area
+  pub report : r ≡ writtenReport (jobLengthOf (headerOf h))
   pub written : after ≡ overwritten (trialJob h c start w) area
 
 -- a refusal, which leaves the area as it was
@@ -41,7 +41,7 @@ module _ (h c : List ℕ) (start w : ℕ) (area : List ℕ) {r : WritingReport} 
   refused-by reason row e = record {
     reason = reason;
     row = row;
-    report = T .report ∙ ap (λ o. trialReport o (jobLengthOf (boundsOf h))) e;
+    report = T .report ∙ ap (λ o. trialReport o (jobLengthOf (headerOf h))) e;
     untouched = T .written ∙ ap (λ o. trialArea o (trialJob h c start w) area) e;
   }
 
@@ -49,7 +49,7 @@ module _ (h c : List ℕ) (start w : ℕ) (area : List ℕ) {r : WritingReport} 
   unfolding trialOutcome
   trial-cases = by (accepted-or-refused h c w)
     where
-      last : testedBefore h c w Accepted ≡ Accepted → (reduced short : Bool) → T .reduced ≡ reduced → jobAreaTooShort (boundsOf h) (length area) ≡ short
+      last : testedBefore h c w Accepted ≡ Accepted → (reduced short : Bool) → T .reduced ≡ reduced → jobAreaTooShort h (length area) ≡ short
           → Wrote h c start w area r after ⊎ RefusedTrial area r after
       last e false short er es = inr (refused-by NotReduced 0 (accepted-later h c w e _ ∙ rw er refl))
       last e true true er es = inr (refused-by AreaTooShort 0 (accepted-later h c w e _ ∙ rw (er, es) refl))
@@ -59,13 +59,13 @@ module _ (h c : List ℕ) (start w : ℕ) (area : List ℕ) {r : WritingReport} 
             passes = e;
             reduced = T .decided e .0 er;
             enough = ltb-false _ _ es;
-            report = T .report ∙ ap (λ o. trialReport o (jobLengthOf (boundsOf h))) accepted;
+            report = T .report ∙ ap (λ o. trialReport o (jobLengthOf (headerOf h))) accepted;
             written = T .written ∙ ap (λ o. trialArea o (trialJob h c start w) area) accepted;
           })
 
       by : (testedBefore h c w Accepted ≡ Accepted) ⊎ ((reason : Reason) × (row : ℕ) × (testedBefore h c w Accepted ≡ Refused reason row))
           → Wrote h c start w area r after ⊎ RefusedTrial area r after
-      by (inl e) = last e (T .reduced) (jobAreaTooShort (boundsOf h) (length area)) refl refl
+      by (inl e) = last e (T .reduced) (jobAreaTooShort h (length area)) refl refl
       by (inr e) = inr (refused-by (e .0) (e .1) (refused-whatever h c w (e .2) _))
 
   -- the report tells the two cases apart
@@ -91,7 +91,7 @@ trial-unique h c start w area {r} {r'} {after} {after'} T T' = by (accepted-or-r
   where
     from : trialOutcome h c w (length area) (T .reduced) ≡ trialOutcome h c w (length area) (T' .reduced) → (r ≡ r') × (after ≡ after')
     from e = (
-      T .report ∙ ap (λ o. trialReport o (jobLengthOf (boundsOf h))) e ∙ sym (T' .report),
+      T .report ∙ ap (λ o. trialReport o (jobLengthOf (headerOf h))) e ∙ sym (T' .report),
       T .written ∙ ap (λ o. trialArea o (trialJob h c start w) area) e ∙ sym (T' .written),
     )
 

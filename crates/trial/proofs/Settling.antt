@@ -14,7 +14,7 @@ use Rattle.format.specs.declared.Reason.the-variants.{AreaTooShort}
 use Rattle.format.specs.declared.Outcome.{Outcome}
 use Rattle.format.specs.declared.Outcome.the-variants.{Accepted, Refused}
 use Rattle.format.specs.Outcomes.{numberOf, refusedWriting, writtenReport}
-use Rattle.header.specs.Header.{boundsOf, jobLengthOf}
+use Rattle.header.specs.Header.{boundsOf, headerOf, jobLengthOf}
 use Rattle.job.proofs.Facts.{refused-not-accepted}
 use Rattle.answer.specs.Bytes.{coefficientBytes, overwritten}
 use Rattle.spoiling.specs.Spoiling.{addedBy}
@@ -39,11 +39,11 @@ module _ (h c : List ℕ) (start w : ℕ) (area : List ℕ) where
 
   -- from the outcome
   settle : (reduced : Bool) → (testedBefore h c w Accepted ≡ Accepted → (reduced ≡ true) ↔ TrialReduced h c) → {o : Outcome} → outcome reduced ≡ o
-      → {after : List ℕ} → after ≡ trialArea o (trialJob h c start w) area → Trial h c start w area (trialReport o (jobLengthOf (boundsOf h))) after
+      → {after : List ℕ} → after ≡ trialArea o (trialJob h c start w) area → Trial h c start w area (trialReport o (jobLengthOf (headerOf h))) after
   settle reduced decided e written = record {
     reduced = reduced;
     decided = decided;
-    report = sym (ap (λ o. trialReport o (jobLengthOf (boundsOf h))) e);
+    report = sym (ap (λ o. trialReport o (jobLengthOf (headerOf h))) e);
     written = written ∙ sym (ap (λ o. trialArea o (trialJob h c start w) area) e);
   }
 
@@ -62,11 +62,11 @@ module _ (h c : List ℕ) (start w : ℕ) (area : List ℕ) where
       is-reduced : testedBefore h c w Accepted ≡ Accepted → (true ≡ true) ↔ TrialReduced h c
       is-reduced accepted = (λ e. R, λ r. refl)
 
-      pub settle-short : length area < jobLengthOf (boundsOf h) → Trial h c start w area (refusedWriting 7 0) area
+      pub settle-short : length area < jobLengthOf (headerOf h) → Trial h c start w area (refusedWriting 7 0) area
       unfolding trialOutcome
       settle-short l = settle true is-reduced {o = Refused AreaTooShort 0} (accepted-later h c w passes _ ∙ rw (lt-ltb _ _ l) refl) refl
 
-      pub settle-written : jobLengthOf (boundsOf h) ≤ length area → {after : List ℕ} → after ≡ overwritten (trialJob h c start w) area
-          → Trial h c start w area (writtenReport (jobLengthOf (boundsOf h))) after
+      pub settle-written : jobLengthOf (headerOf h) ≤ length area → {after : List ℕ} → after ≡ overwritten (trialJob h c start w) area
+          → Trial h c start w area (writtenReport (jobLengthOf (headerOf h))) after
       unfolding trialOutcome
       settle-written l written = settle true is-reduced {o = Accepted} (accepted-later h c w passes _ ∙ rw (le-ltb _ _ l) refl) written

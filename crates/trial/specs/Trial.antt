@@ -11,7 +11,7 @@ use Rattle.format.specs.declared.Outcome.{Outcome}
 use Rattle.format.specs.declared.Outcome.the-variants.{Accepted, Recovered, Refused}
 use Rattle.format.specs.declared.WritingReport.{WritingReport}
 use Rattle.format.specs.Outcomes.{numberOf, refusedWriting, writtenReport}
-use Rattle.header.specs.Header.{boundsOf, jobLengthOf}
+use Rattle.header.specs.Header.{boundsOf, headerOf, jobLengthOf}
 use Rattle.answer.specs.Bytes.{coefficientBytes, overwritten}
 use Rattle.problem.specs.Reduced.{Reduced}
 use Rattle.coefficients.specs.Coefficients.{denominatorOf, numeratorOf}
@@ -48,5 +48,5 @@ trialArea (Refused reason row) job area = area
 pub record Trial (h c : List ℕ) (start w : ℕ) (area : List ℕ) (r : WritingReport) (after : List ℕ) : Type 0 where
   pub reduced : Bool
   pub decided : testedBefore h c w Accepted ≡ Accepted → (reduced ≡ true) ↔ TrialReduced h c
-  pub report : r ≡ trialReport (trialOutcome h c w (length area) reduced) (jobLengthOf (boundsOf h))
+  pub report : r ≡ trialReport (trialOutcome h c w (length area) reduced) (jobLengthOf (headerOf h))
   pub written : after ≡ trialArea (trialOutcome h c w (length area) reduced) (trialJob h c start w) area

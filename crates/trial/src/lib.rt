@@ -1,6 +1,6 @@
 // Paper 02, item 1: trial jobs, whose answer is known. A job is written from a header, the coefficients of g and the f's, a start and the
 // number of rows to be spoiled.
-ghost use Prim.Native.Nat.{ℕ, _≤_, _<_};
+ghost use Prim.Native.Nat.{ℕ, _+_, _*_, _≤_, _<_};
 ghost use mathlib.Core.Path.{_≡_};
 ghost use mathlib.Core.Bool.{true};
 ghost use mathlib.Core.Logic.{_↔_};
@@ -8,13 +8,13 @@ ghost use lib.ListN.{length};
 ghost use Rattle.format.specs.Bounds.{primeOf, Storable};
 ghost use Rattle.coefficients.specs.Coefficients.{coefficientLengthOf};
 ghost use Rattle.format.specs.Outcomes.{writingReportOf};
-ghost use Rattle.header.specs.Header.{jobLengthOf, Narrow};
+ghost use Rattle.header.specs.Header.{headerOf, Narrow, NarrowHeader};
 ghost use Rattle.answer.specs.Bytes.{overwritten};
 ghost use Rattle.poly.specs.Coefficients.{Bounded, Stored};
 ghost use Rattle.poly.specs.Vectors.{coefficientsAt};
 ghost use Rattle.problem.specs.Reduced.{Reduced};
 ghost use Rattle.spoiling.specs.Spoiling.{addedBy};
-ghost use Rattle.trial.specs.Refusals.{testedNumbers, testedBefore};
+ghost use Rattle.trial.specs.Refusals.{testedNumbers, testedLengths, testedBefore};
 ghost use Rattle.trial.specs.Trial.{jobBytes, Trial};
 use coefficients::Vector;
 use coefficients::read_vector;
@@ -22,6 +22,7 @@ use format::Bounds;
 use format::Outcome;
 use format::Reason;
 use format::Writing;
+use header::Header;
 use header::job_length;
 use header::read_header;
 use header::rows_needed;
@@ -56,28 +57,34 @@ fn tested_numbers(coefficients: &[u8], b: Bounds, spoiled: u32) -> Outcome
     Outcome::Accepted
 }
 
-// The tests before 10, in their order.
-fn tested(header: &[u8], coefficients: &[u8], spoiled: u32) -> Outcome
-    ensures { λ r. ⌜ r ≡ testedBefore (now (header .entry)) (now (coefficients .entry)) spoiled Outcome.Accepted ⌝ }
+// Tests 3, 4, 9 and 5, where 1 and 11 do not apply.
+fn tested_lengths(bytes: &[u8], header: Header, coefficients: &[u8], spoiled: u32) -> Outcome
+    requires { ⌜ (header ≡ headerOf (now bytes)) × NarrowHeader header ⌝ }
+    ensures { λ r. ⌜ r ≡ testedLengths (now (bytes .entry)) (now (coefficients .entry)) spoiled Outcome.Accepted ⌝ }
 {
-    if header.len() < 3 {
-        return refused(Reason::TooShort);
-    }
-    let read = read_header(header);
-    let b = read.bounds;
-    if read.spare == 1 {
-        return refused(Reason::SpareBit);
-    }
-    if header.len() != 3 {
+    let b = header.bounds;
+    if bytes.len() != header.length {
         return refused(Reason::ByteCount);
     }
     if coefficients.len() != b.answer_length() - 4 {
         return refused(Reason::ByteCount);
     }
-    if b.rows < rows_needed(b) {
+    if b.rows < rows_needed(header) {
         return refused(Reason::TooFewRows);
     }
     tested_numbers(coefficients, b, spoiled)
+}
+
+// The tests before 10, in their order.
+fn tested(header: &[u8], coefficients: &[u8], spoiled: u32) -> Outcome
+    ensures { λ r. ⌜ r ≡ testedBefore (now (header .entry)) (now (coefficients .entry)) spoiled Outcome.Accepted ⌝ }
+{
+    let read = read_header(header);
+    let examined = header_rules::examine(header.len(), read);
+    let Outcome::Accepted = examined else {
+        return examined;
+    };
+    tested_lengths(header, read, coefficients, spoiled)
 }
 
 // Whether the vector is reduced.
@@ -92,21 +99,22 @@ fn reduced(b: Bounds, v: Vector) -> bool
     is_reduced(prime, n, g, f)
 }
 
-// The header's three bytes at the area's start.
+// The header's bytes at the area's start.
 fn put_header(area: &mut [u8], header: &[u8])
-    requires { ⌜ (length (now header) ≡ 3) × (3 ≤ length (now area)) ⌝ }
+    requires { ⌜ length (now header) ≤ length (now area) ⌝ }
     ensures { λ _. ⌜ now (area .exit) ≡ overwritten (now (header .entry)) (now (area .entry)) ⌝ }
 {
-    area[0] = header[0];
-    area[1] = header[1];
-    area[2] = header[2];
+    let count = header.len();
+    for k in 0..count {
+        area[k] = header[k];
+    }
 }
 
 // Writes the job of a vector and returns how many bytes it wrote.
 fn put_job(area: &mut [u8], header: &[u8], b: Bounds, v: Vector, start: u32, spoiled: u32) -> usize
-    requires { ⌜ (length (now header) ≡ 3) × Narrow b × (0 < b .rows) × (jobLengthOf b ≤ length (now area)) × Bounded (primeOf b) 32 (v .g .c)
+    requires { ⌜ Narrow b × (0 < b .rows) × (length (now header) + 2 * b .rows * (1 + b .outputs) ≤ length (now area)) × Bounded (primeOf b) 32 (v .g .c)
         × ((i : ℕ) → i < b .outputs → Bounded (primeOf b) 32 (coefficientsAt (v .f) i)) ⌝ }
-    ensures { λ r. ⌜ (r ≡ jobLengthOf b)
+    ensures { λ r. ⌜ (r ≡ length (now (header .entry)) + 2 * b .rows * (1 + b .outputs))
         × (now (area .exit) ≡ overwritten (jobBytes b (now (header .entry)) (coefficientsAt (v .f)) (v .g .c) (addedBy (primeOf b) (b .rows) start spoiled)) (now (area .entry))) ⌝ }
 {
     put_header(area, header);
@@ -116,7 +124,7 @@ fn put_job(area: &mut [u8], header: &[u8], b: Bounds, v: Vector, start: u32, spo
     let f = v.f;
     let additions = spoiling::spoilings(prime, rows, start, spoiled as usize);
     let by = additions.by;
-    trial_rows::put_rows(area, b, g, f, &by)
+    trial_rows::put_rows(area, header.len(), b, g, f, &by)
 }
 
 // Any header, coefficients, start and number of rows, any area: the caller owes nothing.
@@ -145,7 +153,7 @@ pub fn trial(
             row: 0,
         };
     }
-    if area.len() < job_length(b) {
+    if area.len() < job_length(read) {
         return Writing::Refused {
             reason: Reason::AreaTooShort,
             row: 0,

@@ -6,15 +6,15 @@ use native.Mathlib.Omega.{arith}
 use Rattle.lists.specs.Tabulated.{tabulate}
 use Rattle.field.proofs.Moduli.{modulus-prime}
 use Rattle.field.specs.declared.Prime.the-variants.{P7}
-use Rattle.format.specs.Bounds.{answerLengthOf}
+use Rattle.format.specs.Bounds.{largestBound, numeratorCount, answerLengthOf}
 use Rattle.format.specs.declared.Outcome.the-variants.{Accepted}
 use Rattle.format.specs.Outcomes.{recoveredReport, writtenReport}
-use Rattle.cursor.specs.Bits.{headerOf}
-use Rattle.header.specs.Header.{boundsOf, spareBitOf, jobLengthOf}
+use Rattle.cursor.specs.Bits.{fieldOf}
+use Rattle.header.specs.Header.{outputsOf, dfOf, spareBitOf, numeratorBoundsOf, flagsOf, boundsOf, headerOf, jobLengthOf}
 use Rattle.row_search.specs.Search.{firstBelow}
 use Rattle.poly.specs.Operations.{valueOf, lengthOf, lengthBelow}
 use Rattle.word.specs.Word.{wordOf, countBelow}
-use Rattle.answer.specs.Bytes.{fourBytes, coefficientBytes, numeratorStart, overwritten}
+use Rattle.answer.specs.Bytes.{fourBytes, coefficientBytes, overwritten}
 use Rattle.reciprocal.specs.Reciprocals.{reciprocalOf}
 use Rattle.division.specs.Division.{remainderOf, remainderFrom, degreeOf, divisionStep, cancelledOf, cancelledAt, cancelFactor, leadingReciprocal, shifted}
 use Rattle.euclid.specs.Euclid.{gcdFrom, gcdOf}
@@ -24,7 +24,7 @@ use Rattle.coefficients.specs.Coefficients.{polynomialFrom}
 use Rattle.spoiling.specs.Draws.{drawn}
 use Rattle.spoiling.specs.Spoiling.{untakenFrom, chosenRow, addedBy}
 use Rattle.trial_rows.specs.Rows.{rightValue, valueBefore, trialNumber, trialNumbers}
-use Rattle.trial.specs.Refusals.{testedNumbers, testedBefore, trialOutcome}
+use Rattle.trial.specs.Refusals.{testedNumbers, testedLengths, testedBefore, trialOutcome}
 use Rattle.trial.specs.Trial.{trialJob, TrialReduced}
 use Rattle.coefficients.proofs.Ranges.{denominator-stored, numerator-stored}
 use Rattle.header.proofs.Fields.{storable}
@@ -35,10 +35,14 @@ use Rattle.trial_recovery.specs.TrialRecovery.{poleOrSpoiled, polesAndSpoiled}
 use Rattle.trial_examples.specs.Examples.{header, coefficients, job, PageWritten, PageRecovered, EachRefusal}
 
 each-refusal : EachRefusal
-unfolding trialOutcome testedBefore testedNumbers boundsOf headerOf spareBitOf firstBelow
+unfolding trialOutcome testedBefore testedLengths testedNumbers tabulate largestBound numeratorCount fieldOf outputsOf dfOf spareBitOf numeratorBoundsOf flagsOf boundsOf firstBelow
 each-refusal = record {
   short-header = refl;
   spare-bit = refl;
+  flag = refl;
+  absent = refl;
+  df-below = refl;
+  longer = refl;
   long-header = refl;
   coefficient-bytes = refl;
   few-rows = refl;
@@ -50,14 +54,14 @@ each-refusal = record {
 }
 
 page-passes : testedBefore header coefficients 2 Accepted ≡ Accepted
-unfolding testedBefore testedNumbers boundsOf headerOf spareBitOf firstBelow
+unfolding testedBefore testedLengths testedNumbers tabulate largestBound numeratorCount fieldOf outputsOf dfOf spareBitOf numeratorBoundsOf flagsOf boundsOf firstBelow
 page-passes = refl
 
 page-facts : TrialFacts header coefficients 2
 page-facts = trial-facts header coefficients 2 page-passes
 
 page-reduced : TrialReduced header coefficients
-unfolding boundsOf headerOf polynomialFrom numeratorStart tabulate lengthOf lengthBelow commonDivisorOf gcdOf gcdFrom remainderOf remainderFrom degreeOf divisionStep cancelledOf cancelledAt cancelFactor leadingReciprocal reciprocalOf firstBelow shifted
+unfolding fieldOf outputsOf dfOf spareBitOf numeratorBoundsOf flagsOf boundsOf polynomialFrom numeratorCount tabulate lengthOf lengthBelow commonDivisorOf gcdOf gcdFrom remainderOf remainderFrom degreeOf divisionStep cancelledOf cancelledAt cancelFactor leadingReciprocal reciprocalOf firstBelow shifted
 page-reduced =
     constant-reduced 7 (modulus-prime P7) 2 _
     (denominator-stored (boundsOf header) (storable header) coefficients (page-facts .coefficient-bytes) (page-facts .coefficients-in-range))
@@ -65,11 +69,11 @@ page-reduced =
     (λ e. omega arith) refl refl
 
 page-job : trialJob header coefficients 14 2 ≡ job
-unfolding trialJob trialNumbers trialNumber valueBefore rightValue valueOf polynomialFrom numeratorStart addedBy chosenRow untakenFrom drawn coefficientBytes tabulate firstBelow boundsOf headerOf
+unfolding trialJob trialNumbers trialNumber valueBefore rightValue valueOf polynomialFrom numeratorCount addedBy chosenRow untakenFrom drawn coefficientBytes tabulate firstBelow fieldOf outputsOf dfOf spareBitOf numeratorBoundsOf flagsOf boundsOf
 page-job = refl
 
-page-length : jobLengthOf (boundsOf header) ≡ 45
-unfolding boundsOf headerOf
+page-length : jobLengthOf (headerOf header) ≡ 45
+unfolding fieldOf outputsOf dfOf spareBitOf numeratorBoundsOf flagsOf boundsOf
 page-length = refl
 
 page-written : PageWritten
@@ -80,19 +84,19 @@ page-written area r after enough T =
 
 -- row 6 is a pole and spoiled, and row 0 is spoiled
 page-count : polesAndSpoiled header coefficients 14 2 ≡ 2
-unfolding countBelow valueOf polynomialFrom addedBy chosenRow untakenFrom drawn tabulate firstBelow boundsOf headerOf
+unfolding countBelow valueOf polynomialFrom addedBy chosenRow untakenFrom drawn tabulate firstBelow fieldOf outputsOf dfOf spareBitOf numeratorBoundsOf flagsOf boundsOf
 page-count = refl
 
 page-word : wordOf (boundsOf header .rows) (poleOrSpoiled header coefficients 14 2) ≡ 2181038080
-unfolding wordOf valueOf polynomialFrom addedBy chosenRow untakenFrom drawn tabulate firstBelow boundsOf headerOf
+unfolding wordOf valueOf polynomialFrom addedBy chosenRow untakenFrom drawn tabulate firstBelow fieldOf outputsOf dfOf spareBitOf numeratorBoundsOf flagsOf boundsOf
 page-word = refl
 
 page-answer-length : answerLengthOf (boundsOf header) ≡ 12
-unfolding boundsOf headerOf
+unfolding tabulate numeratorCount fieldOf outputsOf dfOf spareBitOf numeratorBoundsOf flagsOf boundsOf
 page-answer-length = refl
 
 page-errors : boundsOf header .errors ≡ 2
-unfolding boundsOf headerOf
+unfolding fieldOf boundsOf
 page-errors = refl
 
 page-recovered : PageRecovered

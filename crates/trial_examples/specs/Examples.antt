@@ -41,11 +41,16 @@ PageRecovered = (jobArea : List ℕ) (r : WritingReport) (jobAfter area : List �
 abbrev pub refusal : (h c : List ℕ) (w area : ℕ) (reduced : Bool) → ℕ
 refusal h c w area reduced = trialReport (trialOutcome h c w area reduced) 0 .refusal
 
--- a header of two bytes; the spare bit; a byte too many, in either; L 1 with df 0, dg 1, E 2; eight rows modulo 7, and eight rows to be
+-- a header of two bytes, and of three with the spare bit, which asks for seven; a flag bit, a bound of an output that does not exist, and df 0 where
+-- f2's is 1; a byte too many, in either; L 1 with df 0, dg 1, E 2; eight rows modulo 7, and eight rows to be
 -- spoiled of seven; 7 modulo 7; a common divisor; an area of 44 bytes
 pub record EachRefusal : Type 0 where
   pub short-header : refusal (19 ∷ 128 ∷ []) coefficients 2 45 true ≡ 1
-  pub spare-bit : refusal (19 ∷ 128 ∷ 37 ∷ []) coefficients 2 45 true ≡ 2
+  pub spare-bit : refusal (19 ∷ 128 ∷ 37 ∷ []) coefficients 2 45 true ≡ 1
+  pub flag : refusal (19 ∷ 128 ∷ 37 ∷ 0 ∷ 0 ∷ 0 ∷ 1 ∷ []) coefficients 2 49 true ≡ 11
+  pub absent : refusal (19 ∷ 128 ∷ 37 ∷ 0 ∷ 0 ∷ 16 ∷ 0 ∷ []) coefficients 2 49 true ≡ 11
+  pub df-below : refusal (19 ∷ 128 ∷ 37 ∷ 0 ∷ 64 ∷ 0 ∷ 0 ∷ []) coefficients 2 49 true ≡ 11
+  pub longer : refusal (19 ∷ 128 ∷ 37 ∷ 0 ∷ 0 ∷ 0 ∷ 0 ∷ []) coefficients 2 49 true ≡ 0
   pub long-header : refusal (header ++ 0 ∷ []) coefficients 2 45 true ≡ 3
   pub coefficient-bytes : refusal header (coefficients ++ 0 ∷ []) 2 45 true ≡ 3
   pub few-rows : refusal (16 ∷ 128 ∷ 36 ∷ []) coefficients 2 45 true ≡ 4

@@ -4,6 +4,7 @@ use mathlib.Core.Logic.{_⊎_, inl, inr}
 use mathlib.Core.List.{List, [], _++_}
 use Prim.Native.Nat.{ℕ, _+_, _≤_, _<_}
 use native.Mathlib.Omega.{arith}
+use borrow.Author.Tests.{lt-ltb}
 use lib.ListN.{length, take, drop}
 use lib.Seq.{take-at}
 use Rattle.format.specs.Bounds.{primeOf, answerLengthOf}
@@ -13,7 +14,9 @@ use Rattle.format.specs.declared.Outcome.the-variants.{Refused}
 use Rattle.format.specs.declared.Report.{Report}
 use Rattle.format.specs.declared.WritingReport.{WritingReport}
 use Rattle.format.specs.Outcomes.{reportOf, refusedReport, recoveredReport}
-use Rattle.header.specs.Header.{boundsOf, jobLengthOf}
+use Rattle.header.specs.declared.Header.{Header}
+use Rattle.header.specs.Header.{headerLengthOf, boundsOf, headerOf, jobLengthOf, rowsNeededOf}
+use Rattle.header_rules.specs.Rules.{breaksRule}
 use Rattle.header.proofs.Fields.{narrow, storable}
 use Rattle.job.specs.Refusals.{outcomeOf}
 use Rattle.job.proofs.Deciding.{at-1}
@@ -33,7 +36,7 @@ use Rattle.coefficients.proofs.Written.{Bytes, coefficients-written}
 use Rattle.coefficients.proofs.Ranges.{denominator-bounded, numerator-bounded}
 use Rattle.trial.proofs.Laws.{Wrote, RefusedTrial, trial-cases, wrote-if-not-refused, refused-otherwise}
 use Rattle.trial_recovery.specs.TrialRecovery.{poleOrSpoiled, polesAndSpoiled, GivenBack, TrialRecovered}
-use Rattle.trial_recovery.proofs.Reading.{job-length, bounds-same, spare-same, number-below, number-read, point-read}
+use Rattle.trial_recovery.proofs.Reading.{job-length, header-same, bounds-same, number-below, number-read, point-read}
 use Rattle.trial_recovery.proofs.Judging.{wrong-rows}
 
 module _ (h c : List ℕ) (start w : ℕ) (F : TrialFacts h c w) (R : TrialReduced h c) where
@@ -46,6 +49,9 @@ module _ (h c : List ℕ) (start w : ℕ) (F : TrialFacts h c w) (R : TrialReduc
   abbrev g : List ℕ
   g = denominatorOf (boundsOf h) c
 
+  header : headerOf s ≡ headerOf h
+  header = header-same h c start w F
+
   bounds : boundsOf s ≡ boundsOf h
   bounds = bounds-same h c start w F
 
@@ -56,9 +62,9 @@ module _ (h c : List ℕ) (start w : ℕ) (F : TrialFacts h c w) (R : TrialReduc
   job-facts : (area : ℕ) → answerLengthOf (boundsOf h) ≤ area → WellFormedFacts s area
   job-facts area enough = record {
     fields = narrow s;
-    spare-bit = spare-same h c start w F ∙ F .spare-bit;
-    byte-count = job-length h c start w F ∙ sym (ap jobLengthOf bounds);
-    enough-rows = rw bounds (F .enough-rows);
+    rules = ap breaksRule header ∙ F .rules;
+    byte-count = job-length h c start w F ∙ sym (ap jobLengthOf header);
+    enough-rows = subst (λ (x : Header). rowsNeededOf x ≤ x .bounds .rows) (sym header) (F .enough-rows);
     points-in-range = λ r l. rw (bounds, number-read h c start w F r 0 (row-there l) (omega arith)) (number-below h c start w F r 0 (row-there l));
     values-in-range = λ r i l m.
         let m' = rw bounds at m in
@@ -111,7 +117,7 @@ empty-refused : (area : List ℕ) {r : Report} {after : List ℕ} → Settled []
 empty-refused area {r} {after} S = by (S .cases)
   where
     short : outcomeOf [] (length area) ≡ Refused TooShort 0
-    short = at-1 [] (length area) refl
+    short = at-1 [] (length area) (lt-ltb 0 (headerLengthOf []) (omega arith))
 
     by : RefusedEarly [] area r after ⊎ (Answered [] area r after ⊎ RefusedUnsolvable [] area r after) → (r ≡ refusedReport 1 0) × (after ≡ area)
     by (inl early) = (early .report ∙ ap reportOf short, early .untouched)
@@ -123,8 +129,8 @@ module _ (h c : List ℕ) (start w : ℕ) (jobArea : List ℕ) {r : WritingRepor
   written-bytes : Wrote h c start w jobArea r jobAfter → take (r .written) jobAfter ≡ trialJob h c start w
   written-bytes W =
       let F = trial-facts h c w (W .passes) in
-      ap (λ t. take (t .written) jobAfter) (W .report) ∙ ap (take (jobLengthOf (boundsOf h))) (W .written)
-      ∙ take-at (trialJob h c start w) (drop (length (trialJob h c start w)) jobArea) (jobLengthOf (boundsOf h)) (job-length h c start w F)
+      ap (λ t. take (t .written) jobAfter) (W .report) ∙ ap (take (jobLengthOf (headerOf h))) (W .written)
+      ∙ take-at (trialJob h c start w) (drop (length (trialJob h c start w)) jobArea) (jobLengthOf (headerOf h)) (job-length h c start w F)
 
   none-written : RefusedTrial jobArea r jobAfter → take (r .written) jobAfter ≡ []
   none-written refused = ap (λ t. take (t .written) jobAfter) (refused .report)

@@ -6,13 +6,14 @@ use mathlib.Core.Logic.{_⊎_, inl, inr}
 use native.Mathlib.Nat.{mul-le-mul-right, suc-mul, mod-lt}
 use native.Mathlib.Omega.{arith}
 use lib.Arith.{digits-div, digits-mod}
-use lib.ListN.{length, getD, length-append, List·getD-append}
+use lib.ListN.{length, getD, length-append}
 use Rattle.lists.proofs.Order.{lt-or-ge}
 use Rattle.lists.proofs.Tabulated.{at-tabulate, at-tabulate-past}
 use Rattle.field.proofs.Moduli.{modulus-prime, modulus-positive, modulus-small}
 use Rattle.format.specs.Bounds.{primeOf}
-use Rattle.cursor.specs.Bits.{headerOf}
-use Rattle.header.specs.Header.{boundsOf, spareBitOf, jobLengthOf}
+use Rattle.header.specs.declared.Header.{Header}
+use Rattle.header.specs.Header.{headerLengthOf, boundsOf, headerOf, jobLengthOf}
+use Rattle.header.proofs.Appended.{header-append}
 use Rattle.rows.specs.Rows.{numberAt}
 use Rattle.answer.specs.Bytes.{coefficientBytes}
 use Rattle.answer.proofs.Lengths.{length-coefficients}
@@ -44,26 +45,16 @@ module _ (h c : List ℕ) (start w : ℕ) (facts : TrialFacts h c w) where
   abbrev job : List ℕ
   job = trialJob h c start w
 
-  pub job-length : length job ≡ jobLengthOf (boundsOf h)
+  pub job-length : length job ≡ jobLengthOf (headerOf h)
   unfolding trialJob
   job-length = omega (arith, length-append h (coefficientBytes numbers (L * (1 + n))), length-coefficients numbers (L * (1 + n)), facts .header-bytes)
 
-  -- the header's bytes
-  header-byte : (k : ℕ) → k < 3 → getD job k 0 ≡ getD h k 0
+  pub header-same : headerOf job ≡ headerOf h
   unfolding trialJob
-  header-byte k l = List·getD-append h _ 0 k (omega (arith, facts .header-bytes))
-
-  header-same : headerOf job ≡ headerOf h
-  unfolding headerOf
-  header-same = ap₂ _+_ (ap₂ _+_ (ap (λ x. x * 65536) (header-byte 0 (omega arith))) (ap (λ x. x * 256) (header-byte 1 (omega arith)))) (header-byte 2 (omega arith))
+  header-same = header-append h _ (omega (arith, facts .header-bytes))
 
   pub bounds-same : boundsOf job ≡ boundsOf h
-  unfolding boundsOf
-  bounds-same = rw header-same refl
-
-  pub spare-same : spareBitOf job ≡ spareBitOf h
-  unfolding spareBitOf
-  spare-same = rw header-same refl
+  bounds-same = ap (λ (x : Header). x .bounds) header-same
 
   -- the numbers are residues
   pub number-below : (r column : ℕ) → r < L → numberOf r column < p
@@ -91,9 +82,10 @@ module _ (h c : List ℕ) (start w : ℕ) (facts : TrialFacts h c w) where
       let k = r * (1 + n) + column in
       let ends : suc r * (1 + n) ≤ L * (1 + n) = mul-le-mul-right (1 + n) l in
       let inside : k < L * (1 + n) = omega (arith, suc-mul r (1 + n)) in
-      let three = facts .header-bytes in
-      rw outputs
-      (number-behind h (coefficientBytes numbers (L * (1 + n))) (3 + 2 * k) (2 * k) (omega arith)
+      let behind = facts .header-bytes in
+      let first = ap (λ (x : Header). x .length) header-same in
+      rw (first, outputs)
+      (number-behind h (coefficientBytes numbers (L * (1 + n))) (headerLengthOf h + 2 * k) (2 * k) (omega arith)
       ∙ coefficient-of-bytes numbers sixteen-bits (L * (1 + n)) k inside
       ∙ at-tabulate (L * (1 + n)) (λ j. numberOf (j / (1 + n)) (j % (1 + n))) k inside
       ∙ ap₂ numberOf (digits-div r (omega arith)) (digits-mod r (omega arith)))

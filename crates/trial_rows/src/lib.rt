@@ -59,17 +59,24 @@ fn number_at(q: Prime, g: Poly, f: [Poly; 4], by: &[u32; 32], r: usize, column: 
     y
 }
 
-// Writes the rows behind a header's three bytes and returns the place behind them.
-pub fn put_rows(area: &mut [u8], b: Bounds, g: Poly, f: [Poly; 4], by: &[u32; 32]) -> usize
-    requires { ⌜ Narrow b × (3 + 2 * (b .rows * (1 + b .outputs)) ≤ length (now area)) × Bounded (primeOf b) 32 (g .c)
+// Writes the rows behind a header, from the byte called start on, and returns the place behind them.
+pub fn put_rows(
+    area: &mut [u8],
+    start: usize,
+    b: Bounds,
+    g: Poly,
+    f: [Poly; 4],
+    by: &[u32; 32],
+) -> usize
+    requires { ⌜ Narrow b × (start + 2 * (b .rows * (1 + b .outputs)) ≤ length (now area)) × Bounded (primeOf b) 32 (g .c)
         × ((i : ℕ) → i < b .outputs → Bounded (primeOf b) 32 (coefficientsAt f i)) × ((r : ℕ) → getD (now by) r 0 < primeOf b) ⌝ }
-    ensures { λ r. ⌜ (r ≡ 3 + 2 * (b .rows * (1 + b .outputs)))
-        × (now (area .exit) ≡ spliced 3 (coefficientBytes (trialNumbers (primeOf b) (coefficientsAt f) (g .c) (λ i. getD (now (by .entry)) i 0) (b .rows) (b .outputs)) (b .rows * (1 + b .outputs))) (now (area .entry))) ⌝ }
+    ensures { λ r. ⌜ (r ≡ start + 2 * (b .rows * (1 + b .outputs)))
+        × (now (area .exit) ≡ spliced start (coefficientBytes (trialNumbers (primeOf b) (coefficientsAt f) (g .c) (λ i. getD (now (by .entry)) i 0) (b .rows) (b .outputs)) (b .rows * (1 + b .outputs))) (now (area .entry))) ⌝ }
 {
     let prime = b.prime;
     let width = 1 + b.outputs;
     let count = b.rows * width;
-    let mut next = 3;
+    let mut next = start;
     for k in 0..count {
         let number = number_at(prime, g, f, by, k / width, k % width);
         next = answer::put_number(area, next, number);

@@ -1,11 +1,9 @@
 //! Readable trials.
 
-use super::{
-    excerpt, header_text, labelled, number, number_up_to, parse_bytes, parse_header, Lines,
-    TextError, HEADER,
-};
-use crate::job::within;
-use crate::trial::{output_name, too_high};
+use super::first_line::{header_text, parse_header, HEADER};
+use super::{excerpt, labelled, number, number_up_to, parse_bytes, Lines, TextError};
+use crate::format::{output_name, within};
+use crate::trial::too_high;
 use crate::{polynomial_text, FormatError, Job, Trial};
 use std::fmt::{Display, Formatter};
 use std::str::FromStr;
@@ -29,7 +27,8 @@ impl FromStr for Trial {
             lines.take(&format!("{name} = POLYNOMIAL"), parse)
         };
         let denominator = take("g", bounds.dg)?;
-        let numerators = (0..bounds.outputs).map(|output| take(&output_name(output), bounds.df));
+        let outputs = 0..bounds.outputs;
+        let numerators = outputs.map(|output| take(&output_name(output), bounds.df.of(output)));
         let numerators = numerators.collect::<Result<Vec<_>, _>>()?;
         if let Some(content) = lines.next() {
             let message = format!("expected no further line, found {}", excerpt(content));
@@ -44,9 +43,9 @@ impl FromStr for Trial {
 
 fn parse_spoiled(content: &str) -> Result<(usize, u32, u32), FormatError> {
     let words = labelled(content, SPOILED)?;
-    let rows = number(words[0], "rows")?.into();
+    let rows = number(words[0][0], "rows")?.into();
     within("rows", 0, Job::MOST_ROWS, rows)?;
-    let field = |place: usize, name: &str| number_up_to(u32::MAX, words[place], name);
+    let field = |place: usize, name: &str| number_up_to(u32::MAX, words[place][0], name);
     Ok((rows, field(1, "start")?, field(2, "spoiled")?))
 }
 

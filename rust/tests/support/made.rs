@@ -1,5 +1,6 @@
 //! Streams of jobs of which some are damaged, with what is to be said of each.
 
+use super::support::longer::{break_rules, has_longer_header, lengthened, shortened, Added};
 use outside_checks::jobs::form::{most_rows, raise_bound, set_number, sound_job, Order};
 use outside_checks::jobs::Random;
 use outside_checks::layout::Job;
@@ -31,7 +32,8 @@ fn enlarge(random: &mut Random, job: &mut Job) -> String {
     let rows = [0, 1].map(|_| random.below(job.rows.len()));
     for row in rows {
         let large = random.between(prime as usize, 65535) as u32;
-        set_number(job, row, random.below(1 + job.outputs), large);
+        let columns = 1 + job.rows[row].values.len();
+        set_number(job, row, random.below(columns), large);
     }
     let row = rows[0].min(rows[1]);
     format!("refused 5, row {row}: a point or a value is {prime} or more")
@@ -53,8 +55,8 @@ pub struct Made {
     pub said: String,
 }
 
-/// The jobs of a stream. Each of the four refusals that are possible there is put into one job of eight, the last in order
-/// first, so that what is put in later is said.
+/// The jobs of a stream, with either header. Each of the four refusals that are possible there is put into one job of eight,
+/// the last in order first, so that what is put in later is said; 11 into jobs with the longer header alone.
 pub fn stream(count: usize) -> Vec<Made> {
     let mut byte = 0;
     let next = |number: usize| {
@@ -79,12 +81,20 @@ fn damaged(random: &mut Random) -> (Vec<u8>, String) {
             said = damage(random, &mut job);
         }
     }
-    let mut bytes = job.pack();
-    if random.once_in(8) {
-        bytes[2] |= 1;
-        said = "refused 2: the header's last bit is 1".to_string();
+    let bytes = job.pack();
+    let (short, mut added) = match has_longer_header(&bytes) {
+        true => (shortened(&bytes), Added::of(&bytes)),
+        false if random.once_in(2) => return (bytes, said),
+        false => {
+            let added = Added::drawn(random, &bytes);
+            (bytes, added)
+        }
+    };
+    if random.once_in(5) {
+        let words = break_rules(random, &short, &mut added);
+        said = format!("refused 11: {words}");
     }
-    (bytes, said)
+    (lengthened(&short, &added), said)
 }
 
 /// All their bytes, back to back.

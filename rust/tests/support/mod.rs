@@ -1,7 +1,10 @@
 //! Runs the command from the repository's root.
 #![allow(dead_code)] // Each test file has a copy of its own and uses a part.
 
-use outside_checks::jobs::generate;
+pub mod longer;
+
+use longer::{break_rules, has_longer_header, header_length, lengthened, shortened, Added};
+use outside_checks::jobs::{generate, Random};
 use std::fs;
 use std::io::Write;
 use std::path::{Path, PathBuf};
@@ -125,18 +128,37 @@ pub fn example_names() -> Vec<String> {
     names
 }
 
-/// The length of the job that bytes begin with, counted from paper 01's formula.
+/// The length of the job that bytes begin with, counted from the formulas of papers 01 and 02.
 pub fn length_by_header(bytes: &[u8]) -> Option<usize> {
     let (first, second) = (*bytes.first()?, *bytes.get(1)?);
     bytes.get(2)?;
     let rows = usize::from(first % 16) * 2 + usize::from(second / 128);
     let outputs = usize::from(first / 16 % 4) + 1;
-    Some(3 + 2 * rows * (1 + outputs))
+    Some(header_length(bytes) + 2 * rows * (1 + outputs))
 }
 
-/// Generated jobs that can stand in a stream, many of them refused for what is in them.
+/// Generated jobs that can stand in a stream, with either header, many of them refused for what is in them.
 pub fn stream_jobs(seed: u64, count: usize) -> Vec<Vec<u8>> {
-    let jobs = (0..).map(|index| generate(seed, index).bytes);
-    let fits = |job: &Vec<u8>| length_by_header(job) == Some(job.len());
-    jobs.filter(fits).take(count).collect()
+    let jobs = (0..).filter_map(|index| stream_job(seed, index));
+    jobs.take(count).collect()
+}
+
+/// A generated job as it is, or with the other header; a longer one that takes the short one's place breaks a rule at times.
+fn stream_job(seed: u64, index: u64) -> Option<Vec<u8>> {
+    let job = generate(seed, index).bytes;
+    if length_by_header(&job) != Some(job.len()) {
+        return None;
+    }
+    let mut random = Random::new(seed, index);
+    if random.once_in(2) {
+        return Some(job);
+    }
+    if has_longer_header(&job) {
+        return Some(shortened(&job));
+    }
+    let mut added = Added::equal(&job);
+    if random.once_in(8) {
+        break_rules(&mut random, &job, &mut added);
+    }
+    Some(lengthened(&job, &added))
 }

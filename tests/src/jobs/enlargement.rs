@@ -1,9 +1,9 @@
 //! Pairs of jobs for the enlargement rule of paper 01: the larger one holds every row of the
-//! smaller one, in another order, with further rows and bounds of its own.
+//! smaller one, in another order, with further rows, bounds of its own, and either header.
 
 use super::planted::{planted, Planted, Shape, WrongRows};
 use super::random::Random;
-use crate::layout::{value_at, wrong_rows, Job, Row, MOST_ROWS};
+use crate::layout::{value_at, wrong_rows, HeaderForm, Job, Row, MOST_ROWS};
 use crate::second::Field;
 
 pub struct Pair {
@@ -29,11 +29,7 @@ pub fn generate(seed: u64, index: u64) -> Pair {
         _ => WrongRows::Exact,
     };
     let planted = planted(&mut random, shape, wrong);
-    let mut larger = Job {
-        rows: Vec::new(),
-        ..planted.job
-    };
-    larger.rows = planted.job.rows.clone();
+    let mut larger = planted.job.clone();
     add_rows(&mut random, &planted, &mut larger);
     draw_bounds(&mut random, &planted, &mut larger);
     random.shuffle(&mut larger.rows);
@@ -87,9 +83,8 @@ fn row_at(random: &mut Random, planted: &Planted, point: u32, wrong: bool) -> Ro
     let field = Field::new(prime);
     let below = value_at(&planted.denominator, point, prime);
     let values = if wrong || below == 0 {
-        (0..planted.job.outputs)
-            .map(|_| random.residue(prime))
-            .collect()
+        let numerators = planted.numerators.iter();
+        numerators.map(|_| random.residue(prime)).collect()
     } else {
         let unit = field.reciprocal(below);
         let value = |f: &Vec<u32>| field.multiply(value_at(f, point, prime), unit);
@@ -99,14 +94,11 @@ fn row_at(random: &mut Random, planted: &Planted, point: u32, wrong: bool) -> Ro
 }
 
 /// Bounds that the fraction meets and that the rows suffice for; E is often the number of wrong
-/// rows, or one less.
+/// rows, or one less. Under the longer header each f has a bound of its own, which may be its degree.
 fn draw_bounds(random: &mut Random, planted: &Planted, larger: &mut Job) {
-    let numerator_degree = planted
-        .numerators
-        .iter()
-        .map(|f| f.len().saturating_sub(1))
-        .max()
-        .unwrap_or(0);
+    let degree = |f: &Vec<u32>| f.len().saturating_sub(1);
+    let degrees: Vec<usize> = planted.numerators.iter().map(degree).collect();
+    let numerator_degree = degrees.iter().copied().max().unwrap_or(0);
     let denominator_degree = planted.denominator.len() - 1;
     let room = larger.rows.len() - 1 - numerator_degree - denominator_degree;
     let wrong = wrong_rows(larger, &planted.denominator, &planted.numerators).count_ones() as usize;
@@ -120,6 +112,15 @@ fn draw_bounds(random: &mut Random, planted: &Planted, larger: &mut Job) {
     let room = room - 2 * larger.error_bound;
     let sum = random.between(0, room);
     let part = random.between(0, sum);
-    larger.numerator_bound = numerator_degree + part;
+    let df = numerator_degree + part;
     larger.denominator_bound = denominator_degree + sum - part;
+    larger.header = random.one_of(&[HeaderForm::Short, HeaderForm::Longer, HeaderForm::Longer]);
+    larger.numerator_bounds.fill(df);
+    if larger.header == HeaderForm::Longer {
+        let bounds = degrees.into_iter().map(|degree| {
+            let any = random.between(degree, df);
+            random.one_of(&[any, any, degree, df])
+        });
+        larger.numerator_bounds = bounds.collect();
+    }
 }

@@ -1,8 +1,10 @@
 //! Jobs with faults: made to be refused with a given number, damaged, or random.
 
-use super::planted::{planted, Shape, WrongRows};
+use super::added::Broken;
+use super::faults::{change_length, raise_bound, take_rows};
+use super::planted::{draw_header, planted, Shape, WrongRows};
 use super::{new_job, Expected, GeneratedJob, Kind, Random};
-use crate::layout::{Job, Row, PRIMES};
+use crate::layout::{HeaderForm, Job, Row};
 
 /// A well formed job to be spoilt.
 fn sound_job(random: &mut Random) -> Job {
@@ -19,11 +21,10 @@ fn any_area(random: &mut Random) -> usize {
     random.below(300)
 }
 
-/// A job that paper 01 refuses with `number`, for a reason that the generator put in.
+/// A job that is refused with `number`, for a reason that the generator put in.
 pub fn refused(random: &mut Random, number: u32) -> GeneratedJob {
     match number {
         1 => too_short(random),
-        2 => spare_bit(random),
         3 => wrong_length(random),
         4 => too_few_rows(random),
         5 => out_of_range(random),
@@ -50,61 +51,62 @@ fn faulty(
     new_job(random, kinds, bytes, area_length, expected)
 }
 
+/// A part of a header.
 fn too_short(random: &mut Random) -> GeneratedJob {
-    let mut bytes = sound_job(random).pack();
-    bytes.truncate(random.below(3));
+    let job = sound_job(random);
+    let mut bytes = job.pack();
+    bytes.truncate(random.below(job.header.length()));
     faulty(random, vec![Kind::Refused1], false, bytes, (1, 0))
 }
 
-fn spare_bit(random: &mut Random) -> GeneratedJob {
-    let mut bytes = sound_job(random).pack();
+/// A job with the short header and the spare bit 1. By paper 01 it was refused with 2; by item 5 of paper 02 it has too few
+/// bytes for an added header and meets 1, or its first row is read as one, sets flags and meets 11.
+pub fn spare_bit(random: &mut Random) -> GeneratedJob {
+    let mut job = sound_job(random).under(HeaderForm::Short);
+    let most = 4095.min(job.prime() - 1);
+    job.rows[0].values[0] = random.between(1, most as usize) as u32;
+    let mut bytes = job.pack();
     bytes[2] |= 1;
-    let two_faults = random.once_in(2);
-    if two_faults {
-        bytes.truncate(random.between(3, bytes.len() - 1));
+    let length = bytes.len();
+    bytes.truncate(random.one_of(&[3, 4, 5, 6, 7, length, length, length]));
+    let number = if bytes.len() < 7 { 1 } else { 11 };
+    let two_faults = bytes.len() < length;
+    faulty(random, vec![Kind::SpareBit], two_faults, bytes, (number, 0))
+}
+
+/// A job with this broken added header.
+pub fn broken(random: &mut Random, broken: Broken) -> GeneratedJob {
+    let job = loop {
+        let job = sound_job(random);
+        if broken.fits(&job) {
+            break job;
+        }
+    };
+    let needed = job.answer_length();
+    let bytes = broken.bytes(random, job);
+    let area_length = match broken.other {
+        7 => random.below(needed),
+        _ => needed + random.below(3),
+    };
+    let expected = Expected::Refused {
+        number: broken.refusal(),
+        row: 0,
+    };
+    GeneratedJob {
+        broken: Some(broken),
+        ..new_job(random, Vec::new(), bytes, area_length, expected)
     }
-    faulty(random, vec![Kind::Refused2], two_faults, bytes, (2, 0))
 }
 
 fn wrong_length(random: &mut Random) -> GeneratedJob {
-    let mut bytes = sound_job(random).pack();
+    let mut job = sound_job(random);
     let two_faults = random.once_in(3);
     if two_faults {
-        // Bounds that ask for more rows than any job has.
-        bytes[1] |= 0x7F;
+        raise_bound(random, &mut job);
     }
+    let mut bytes = job.pack();
     change_length(random, &mut bytes);
     faulty(random, vec![Kind::Refused3], two_faults, bytes, (3, 0))
-}
-
-/// Bytes missing, bytes too many, or another number of rows in the header.
-pub fn change_length(random: &mut Random, bytes: &mut Vec<u8>) {
-    match random.below(5) {
-        0 => bytes.truncate(bytes.len() - 1),
-        1 => bytes.truncate(random.between(3, bytes.len() - 1)),
-        2 => bytes.push(random.byte()),
-        3 => {
-            let surplus = random.between(1, 400);
-            bytes.extend(random.bytes(surplus));
-        }
-        _ => bytes[1] ^= 0x80,
-    }
-}
-
-/// Rows are taken away, or df is raised, until one row or more is missing.
-pub fn take_rows(random: &mut Random, job: &mut Job) {
-    let needed = job.needed_rows();
-    match random.below(3) {
-        0 => job.rows.truncate(needed - 1),
-        1 => job.rows.truncate(random.below(needed)),
-        _ => raise_bound(random, job),
-    }
-}
-
-/// Raises df until one row or more is missing.
-pub fn raise_bound(random: &mut Random, job: &mut Job) {
-    let least = job.rows.len() - job.denominator_bound - 2 * job.error_bound;
-    job.numerator_bound = random.between(least, 31);
 }
 
 fn too_few_rows(random: &mut Random) -> GeneratedJob {
@@ -126,16 +128,16 @@ fn crowded_job(random: &mut Random) -> Job {
             values: vec![random.residue(7)],
         })
         .collect();
-    let (numerator_bound, denominator_bound) = (random.below(3), random.below(2));
-    let error_bound = random.below(3);
-    Job {
+    let mut job = Job {
+        header: HeaderForm::Short,
         prime_code: 0,
-        outputs: 1,
-        numerator_bound,
-        denominator_bound,
-        error_bound,
+        numerator_bounds: vec![random.below(3)],
+        denominator_bound: random.below(2),
+        error_bound: random.below(3),
         rows,
-    }
+    };
+    draw_header(random, &mut job, 0);
+    job
 }
 
 /// A job for the refusals 5 and 6, with two rows or more.
@@ -169,7 +171,7 @@ fn out_of_range(random: &mut Random) -> GeneratedJob {
         } else {
             random.between(prime, 65535)
         };
-        let place = random.below(1 + job.outputs);
+        let place = random.below(1 + job.outputs());
         match place {
             0 => job.rows[row].point = number as u32,
             _ => job.rows[row].values[place - 1] = number as u32,
@@ -230,12 +232,16 @@ pub fn random_values(random: &mut Random) -> GeneratedJob {
     )
 }
 
-/// A job with some bytes changed, lost or doubled.
+/// A job with some bytes changed, lost or doubled, often those of its added header.
 pub fn damaged(random: &mut Random) -> GeneratedJob {
     let job = sound_job(random);
     let mut bytes = job.pack();
+    let of_header = job.header == HeaderForm::Longer && random.once_in(2);
     for _ in 0..random.between(1, 3) {
-        let place = random.below(bytes.len());
+        let place = match of_header {
+            true => random.between(3, 6),
+            false => random.below(bytes.len()),
+        };
         match random.below(8) {
             0 => bytes[place] = random.byte(),
             1..=5 => bytes[place] ^= 1 << random.below(8),
@@ -245,7 +251,11 @@ pub fn damaged(random: &mut Random) -> GeneratedJob {
             }
         }
     }
-    open_job(random, Kind::DamagedBytes, bytes)
+    let mut job = open_job(random, Kind::DamagedBytes, bytes);
+    if of_header {
+        job.kinds.push(Kind::DamagedAddedHeader);
+    }
+    job
 }
 
 /// A job of which nothing is known beforehand, mostly with room for any answer.
@@ -260,25 +270,37 @@ fn open_job(random: &mut Random, kind: Kind, bytes: Vec<u8>) -> GeneratedJob {
 
 /// Random bytes, half of them with the length that their header asks for.
 pub fn random_bytes(random: &mut Random) -> GeneratedJob {
-    let mut length = random.below(330);
-    let mut bytes = random.bytes(length);
-    if length >= 3 && random.once_in(2) {
-        bytes[2] &= 0xFE;
-        let rows = usize::from(bytes[0] & 15) * 2 + usize::from(bytes[1] >> 7);
-        let outputs = usize::from(bytes[0] >> 4 & 3) + 1;
-        // Small bounds, so that the tests behind 4 are reached.
-        bytes[1] &= 0x84;
-        bytes[2] &= 0x26;
-        length = 3 + 2 * rows * (1 + outputs);
-        bytes.truncate(length);
-        let missing = length - bytes.len();
-        bytes.extend(random.bytes(missing));
-        let prime = PRIMES[usize::from(bytes[0] >> 6)];
-        if random.once_in(2) {
-            keep_in_range(&mut bytes[3..], prime);
+    let bytes = match random.once_in(2) {
+        true => fitting_bytes(random),
+        false => {
+            let length = random.below(330);
+            random.bytes(length)
         }
-    }
+    };
     open_job(random, Kind::RandomBytes, bytes)
+}
+
+/// A header with small bounds, so that the tests behind 4 are reached, and rows of random bytes.
+fn fitting_bytes(random: &mut Random) -> Vec<u8> {
+    let (outputs, df) = (random.between(1, 4), random.below(2));
+    let row = Row {
+        point: 0,
+        values: vec![0; outputs],
+    };
+    let mut job = Job {
+        header: HeaderForm::Short,
+        prime_code: random.below(4),
+        numerator_bounds: vec![df; outputs],
+        denominator_bound: random.below(2),
+        error_bound: random.below(4),
+        rows: vec![row; random.below(32)],
+    };
+    draw_header(random, &mut job, 0);
+    let mut rows = random.bytes(2 * job.rows.len() * (1 + outputs));
+    if random.once_in(2) {
+        keep_in_range(&mut rows, job.prime());
+    }
+    [job.packed_header(), rows].concat()
 }
 
 /// Makes every 16-bit number a residue.

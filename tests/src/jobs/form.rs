@@ -7,13 +7,15 @@ mod repeated;
 mod sound;
 mod tally;
 
+use super::added::Broken;
+pub use super::faults::raise_bound;
 use super::random::Random;
 use super::{faulty, planned, GeneratedJob};
 use crate::layout::Job;
-pub use faulty::raise_bound;
 use hanthuvelo::{hex, Form};
 pub use large::set_number;
 use large::Large;
+pub use repeated::rising_rows;
 use repeated::Repeated;
 pub use sound::{most_rows, sound_job, Order};
 use sound::{sound_size, Turn};
@@ -36,6 +38,10 @@ pub enum Kind {
     Crowded(u32),
     /// Two faults, with these numbers.
     Both(u32, u32),
+    /// The short header with the spare bit 1, once refused with 2.
+    SpareBit,
+    /// The added header breaks a rule, often with another fault.
+    Broken,
     /// Nothing is known of its form.
     Damaged,
     RandomBytes,
@@ -49,19 +55,24 @@ impl Kind {
             Kind::Refused(number) | Kind::Crowded(number) | Kind::Both(number, _) => Some(number),
             Kind::Large => Some(5),
             Kind::Repeated(_) => Some(6),
+            Kind::SpareBit | Kind::Broken => None,
             Kind::AsRecovered | Kind::Damaged | Kind::RandomBytes => None,
         }
     }
 }
 
-/// Each kind with its share in a hundred jobs.
-const PLAN: [(Kind, usize); 30] = [
+/// What else is wrong where an added header is broken.
+const OTHER_FAULTS: [u32; 6] = [0, 1, 3, 4, 5, 6];
+
+/// Each kind with its share.
+const PLAN: [(Kind, usize); 27] = [
     (Kind::AsRecovered, 14),
     (Kind::Accepted(Order::Rising), 4),
     (Kind::Accepted(Order::Falling), 4),
     (Kind::Accepted(Order::Shuffled), 4),
-    (Kind::Refused(1), 2),
-    (Kind::Refused(2), 4),
+    (Kind::Refused(1), 4),
+    (Kind::SpareBit, 4),
+    (Kind::Broken, 6),
     (Kind::Refused(3), 4),
     (Kind::Refused(4), 4),
     (Kind::Refused(5), 4),
@@ -74,10 +85,6 @@ const PLAN: [(Kind, usize); 30] = [
     (Kind::Repeated(Repeated::ThreeTimes), 4),
     (Kind::Crowded(5), 2),
     (Kind::Crowded(6), 2),
-    (Kind::Both(2, 3), 1),
-    (Kind::Both(2, 4), 1),
-    (Kind::Both(2, 5), 1),
-    (Kind::Both(2, 6), 1),
     (Kind::Both(3, 4), 1),
     (Kind::Both(3, 5), 1),
     (Kind::Both(3, 6), 1),
@@ -98,6 +105,7 @@ pub struct FormJob {
     pub expected: Option<Form>,
     /// The number that is p or more, if that is the job's only fault.
     large: Option<Large>,
+    broken: Option<Broken>,
 }
 
 /// The job of this number in the run of this seed.
@@ -116,6 +124,11 @@ pub fn generate(seed: u64, index: u64) -> FormJob {
         Kind::Repeated(repeated) => repeated.job(random, turn),
         Kind::Crowded(number) => crowded::job(random, turn, number),
         Kind::Both(first, second) => both::job(random, turn, first, second),
+        Kind::SpareBit => FormJob::of(faulty::spare_bit(random)),
+        Kind::Broken => {
+            let broken = Broken::of_turn(count, &OTHER_FAULTS);
+            FormJob::of(faulty::broken(random, broken))
+        }
         Kind::Damaged => FormJob::of(faulty::damaged(random)),
         Kind::RandomBytes => FormJob::of(faulty::random_bytes(random)),
     };
@@ -134,12 +147,16 @@ impl FormJob {
             bytes,
             expected,
             large: None,
+            broken: None,
         }
     }
 
     fn of(job: GeneratedJob) -> FormJob {
         let expected = job.expected.form();
-        FormJob::new(job.bytes, expected)
+        FormJob {
+            broken: job.broken,
+            ..FormJob::new(job.bytes, expected)
+        }
     }
 
     fn accepted(job: &Job) -> FormJob {
@@ -153,10 +170,11 @@ impl FormJob {
     /// Everything needed to try the job again.
     pub fn describe(&self) -> String {
         format!(
-            "seed {} job {} {:?}\njob bytes {}",
+            "seed {} job {} {:?} {:?}\njob bytes {}",
             self.seed,
             self.index,
             self.kind,
+            self.broken,
             hex::text(&self.bytes)
         )
     }

@@ -24,44 +24,42 @@ impl Fraction {
         match shape {
             Shape::AllZero => Some(Fraction {
                 denominator: Polynomial::one(),
-                numerators: vec![Polynomial::zero(); job.outputs],
+                numerators: vec![Polynomial::zero(); job.outputs()],
                 common_factor: Polynomial::one(),
             }),
             Shape::LooseBounds => {
-                let (df, dg) = (job.numerator_bound.min(1), job.denominator_bound.min(1));
-                Fraction::reduced(random, job, df, dg, 0)
+                let bounds = job.numerator_bounds.iter().map(|&bound| bound.min(1));
+                let dg = job.denominator_bound.min(1);
+                Fraction::reduced(random, job, (bounds.collect(), dg), 0)
             }
             Shape::Poles => {
                 let poles = random.between(1, job.denominator_bound.min(wrong_count));
-                Fraction::reduced(
-                    random,
-                    job,
-                    job.numerator_bound,
-                    job.denominator_bound,
-                    poles,
-                )
+                Fraction::within(random, job, poles)
             }
             Shape::CommonFactor => Fraction::enlarged(random, job, wrong_count),
             Shape::PartlyCommon => Fraction::partly_common(random, job, wrong_count),
             Shape::Any | Shape::WholeField | Shape::LongestAnswer => {
-                Fraction::reduced(random, job, job.numerator_bound, job.denominator_bound, 0)
+                Fraction::within(random, job, 0)
             }
         }
     }
 
-    /// A fraction with these bounds whose denominator is zero at the first `poles` points.
+    /// A fraction within the job's bounds whose denominator is zero at the first `poles` points.
+    fn within(random: &mut Random, job: &Job, poles: usize) -> Option<Fraction> {
+        let bounds = (job.numerator_bounds.clone(), job.denominator_bound);
+        Fraction::reduced(random, job, bounds, poles)
+    }
+
+    /// The same with these bounds of each f and of g.
     fn reduced(
         random: &mut Random,
         job: &Job,
-        numerator_bound: usize,
-        denominator_bound: usize,
+        (numerator_bounds, denominator_bound): (Vec<usize>, usize),
         poles: usize,
     ) -> Option<Fraction> {
         let degree = drawn_degree(random, denominator_bound - poles);
         let denominator = with_roots(random, job, degree, poles);
-        let numerators: Vec<Polynomial> = (0..job.outputs)
-            .map(|_| numerator(random, numerator_bound, job.prime()))
-            .collect();
+        let numerators = numerators_within(random, &numerator_bounds, job.prime());
         Fraction::if_reduced(denominator, numerators, job)
     }
 
@@ -86,12 +84,14 @@ impl Fraction {
     /// A fraction that still meets the bounds after multiplication by its common factor, which has
     /// at most `wrong_count` roots planted among the points.
     fn enlarged(random: &mut Random, job: &Job, wrong_count: usize) -> Option<Fraction> {
-        let degree = random.between(1, 3.min(job.numerator_bound).min(job.denominator_bound));
-        let df = job.numerator_bound - degree;
+        let bounds = job.numerator_bounds.iter();
+        let least = bounds.clone().fold(job.denominator_bound, |a, &b| a.min(b));
+        let degree = random.between(1, 3.min(least));
+        let bounds = bounds.map(|bound| bound - degree).collect();
         let dg = job.denominator_bound - degree;
         let roots = random.between(0, degree.min(wrong_count));
         let common_factor = with_roots(random, job, degree - roots, roots);
-        let fraction = Fraction::reduced(random, job, df, dg, 0)?;
+        let fraction = Fraction::reduced(random, job, (bounds, dg), 0)?;
         Some(Fraction {
             common_factor,
             ..fraction
@@ -101,7 +101,7 @@ impl Fraction {
     /// A reduced fraction although g and all f but one have a common divisor.
     fn partly_common(random: &mut Random, job: &Job, wrong_count: usize) -> Option<Fraction> {
         let fraction = Fraction::enlarged(random, job, wrong_count)?;
-        let other = random.below(job.outputs);
+        let other = random.below(job.outputs());
         let enlarged = |polynomial: &Polynomial| {
             polynomial.times(&fraction.common_factor, Field::new(job.prime()))
         };
@@ -133,8 +133,16 @@ fn drawn_degree(random: &mut Random, bound: usize) -> usize {
     }
 }
 
+/// Random numerators within these bounds.
+pub fn numerators_within(random: &mut Random, bounds: &[usize], prime: u32) -> Vec<Polynomial> {
+    let bounds = bounds.iter();
+    bounds
+        .map(|&bound| numerator(random, bound, prime))
+        .collect()
+}
+
 /// A random numerator, zero at times.
-pub fn numerator(random: &mut Random, bound: usize, prime: u32) -> Polynomial {
+fn numerator(random: &mut Random, bound: usize, prime: u32) -> Polynomial {
     if random.once_in(8) {
         return Polynomial::zero();
     }

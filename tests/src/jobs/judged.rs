@@ -3,14 +3,16 @@
 
 mod altered;
 mod open;
+mod own_bound;
 mod refused;
 mod right;
 mod tally;
 mod too_many;
 
-use super::planned;
+use super::added::Broken;
 use super::planted::Planted;
 use super::random::Random;
+use super::{faulty, planned};
 use crate::layout::{Answer, Job};
 use altered::{Bit, Vector, Word};
 use hanthuvelo::{hex, Judgement};
@@ -34,12 +36,18 @@ pub enum Kind {
     Vector(Vector),
     /// A reduced vector for which more than E rows are wrong.
     TooMany(TooMany),
+    /// A vector within df for every output, of which one f is cut at its own bound.
+    CutAtOwnBound,
     /// The verdict is not known.
     Open(Open),
     /// The job's answer with another number of bytes.
     Length(Length),
     /// The job is refused with this number.
     Refused(u32, Fit),
+    /// The job has the short header with the spare bit 1, and was once refused with 2.
+    SpareBit(Fit),
+    /// The job's added header breaks a rule, often with another fault.
+    Broken(Fit),
     /// The same, and but for this fault of the job the offered answer would be its answer.
     Slight(u32),
 }
@@ -56,16 +64,21 @@ impl Kind {
     fn verdict(self) -> Option<Verdict> {
         match self {
             Kind::Right(_) => Some(Verdict::Yes),
-            Kind::Word(_) | Kind::Bit(_) | Kind::Vector(_) | Kind::TooMany(_) => Some(Verdict::No),
+            Kind::Word(_) | Kind::Bit(_) | Kind::Vector(_) => Some(Verdict::No),
+            Kind::TooMany(_) | Kind::CutAtOwnBound => Some(Verdict::No),
             Kind::Length(_) | Kind::Refused(..) | Kind::Slight(_) => Some(Verdict::Refused),
+            Kind::SpareBit(_) | Kind::Broken(_) => Some(Verdict::Refused),
             Kind::Open(_) => None,
         }
     }
 }
 
-/// Each kind with its share in a hundred pairs.
-const PLAN: [(Kind, usize); 52] = [
-    (Kind::Right(Right::Any), 8),
+/// What else is wrong where an added header is broken.
+const OTHER_FAULTS: [u32; 6] = [0, 1, 3, 4, 5, 6];
+
+/// Each kind with its share.
+const PLAN: [(Kind, usize); 56] = [
+    (Kind::Right(Right::Any), 11),
     (Kind::Right(Right::AllZero), 2),
     (Kind::Right(Right::PartlyCommon), 4),
     (Kind::Right(Right::OtherAnswer), 2),
@@ -90,6 +103,7 @@ const PLAN: [(Kind, usize); 52] = [
     (Kind::TooMany(TooMany::AllMarked), 4),
     (Kind::TooMany(TooMany::OneNotMarked), 2),
     (Kind::TooMany(TooMany::Spoiled), 3),
+    (Kind::CutAtOwnBound, 2),
     (Kind::Open(Open::RandomVector), 4),
     (Kind::Open(Open::DamagedJob), 2),
     (Kind::Open(Open::RandomBytes), 1),
@@ -99,20 +113,23 @@ const PLAN: [(Kind, usize); 52] = [
     (Kind::Length(Length::Shorter), 1),
     (Kind::Length(Length::Longer), 1),
     (Kind::Length(Length::NumeratorsToDg), 1),
+    (Kind::Length(Length::NumeratorsToDf), 1),
     (Kind::Length(Length::WithoutWord), 1),
     (Kind::Refused(1, Fit::RightLength), 1),
-    (Kind::Refused(2, Fit::RightLength), 1),
+    (Kind::SpareBit(Fit::RightLength), 1),
+    (Kind::Broken(Fit::RightLength), 3),
     (Kind::Refused(3, Fit::RightLength), 1),
     (Kind::Refused(4, Fit::RightLength), 1),
     (Kind::Refused(5, Fit::RightLength), 1),
     (Kind::Refused(6, Fit::RightLength), 1),
     (Kind::Refused(1, Fit::OtherLength), 1),
-    (Kind::Refused(2, Fit::OtherLength), 1),
+    (Kind::SpareBit(Fit::OtherLength), 1),
+    (Kind::Broken(Fit::OtherLength), 3),
     (Kind::Refused(3, Fit::OtherLength), 1),
     (Kind::Refused(4, Fit::OtherLength), 1),
     (Kind::Refused(5, Fit::OtherLength), 1),
     (Kind::Refused(6, Fit::OtherLength), 1),
-    (Kind::Slight(2), 1),
+    (Kind::Slight(11), 1),
     (Kind::Slight(3), 1),
     (Kind::Slight(4), 1),
     (Kind::Slight(5), 1),
@@ -130,6 +147,8 @@ pub struct Pair {
     pub expected: Option<Judgement>,
     /// The place of the bit that was flipped, if one was.
     flipped: Option<usize>,
+    /// How the job's added header is broken, if it was made so.
+    broken: Option<Broken>,
 }
 
 /// The pair of this number in the run of this seed.
@@ -144,7 +163,20 @@ pub fn generate(seed: u64, index: u64) -> Pair {
         Kind::TooMany(too_many) => too_many.pair(&mut random),
         Kind::Open(open) => open.pair(&mut random),
         Kind::Length(length) => length.pair(&mut random),
-        Kind::Refused(number, fit) => refused::pair(&mut random, number, fit),
+        Kind::CutAtOwnBound => own_bound::pair(&mut random),
+        Kind::Refused(number, fit) => {
+            let job = faulty::refused(&mut random, number);
+            refused::pair(&mut random, job, fit)
+        }
+        Kind::SpareBit(fit) => {
+            let job = faulty::spare_bit(&mut random);
+            refused::pair(&mut random, job, fit)
+        }
+        Kind::Broken(fit) => {
+            let broken = Broken::of_turn(turn, &OTHER_FAULTS);
+            let job = faulty::broken(&mut random, broken);
+            refused::pair(&mut random, job, fit)
+        }
         Kind::Slight(number) => refused::slight_pair(&mut random, number),
     };
     pair.seed = seed;
@@ -163,6 +195,7 @@ impl Pair {
             offered,
             expected,
             flipped: None,
+            broken: None,
         }
     }
 
@@ -175,10 +208,11 @@ impl Pair {
     /// Everything needed to try the pair again.
     pub fn describe(&self) -> String {
         format!(
-            "seed {} pair {} {:?}\njob {}\noffered {}",
+            "seed {} pair {} {:?} {:?}\njob {}\noffered {}",
             self.seed,
             self.index,
             self.kind,
+            self.broken,
             hex::text(&self.job),
             hex::text(&self.offered)
         )

@@ -1,13 +1,14 @@
 //! Jobs for measuring speed: full degrees, no pole, exactly E wrong rows, points 0 to L − 1.
 
 use super::random::Random;
-use crate::layout::{has_pole, Job, Row};
+use crate::layout::{has_pole, HeaderForm, Job, Row};
 use crate::second::polynomial::Polynomial;
 use crate::second::Field;
 
 /// The sizes of a measured job, with L = df + dg + 2E + 1.
 #[derive(Clone, Copy)]
 pub struct Size {
+    pub header: HeaderForm,
     pub outputs: usize,
     pub numerator_bound: usize,
     pub denominator_bound: usize,
@@ -15,8 +16,9 @@ pub struct Size {
 }
 
 impl Size {
-    /// 31 rows, four outputs.
+    /// 31 rows, four outputs, the short header.
     pub const FULL: Size = Size {
+        header: HeaderForm::Short,
         outputs: 4,
         numerator_bound: 10,
         denominator_bound: 8,
@@ -37,9 +39,9 @@ pub fn generate(seed: u64, index: u64, size: Size) -> Job {
     let mut random = Random::new(seed, index);
     let points = 0..size.row_count() as u32;
     let mut job = Job {
+        header: size.header,
         prime_code: 3,
-        outputs: size.outputs,
-        numerator_bound: size.numerator_bound,
+        numerator_bounds: vec![size.numerator_bound; size.outputs],
         denominator_bound: size.denominator_bound,
         error_bound: size.error_bound,
         rows: points
@@ -77,8 +79,9 @@ fn full_fraction(random: &mut Random, job: &Job) -> (Polynomial, Vec<Polynomial>
             Polynomial::new(coefficients)
         };
         let denominator = draw(job.denominator_bound, 1);
-        let numerators: Vec<Polynomial> = (0..job.outputs)
-            .map(|output| draw(job.numerator_bound, 2 + output as u32))
+        let numerators: Vec<Polynomial> = (2..)
+            .zip(&job.numerator_bounds)
+            .map(|(leading, &bound)| draw(bound, leading))
             .collect();
         let divisor = numerators
             .iter()

@@ -1,8 +1,8 @@
 //! Jobs made from a known reduced answer, with a known number of wrong rows.
 
-use super::fraction::{numerator, Fraction};
+use super::fraction::{numerators_within, Fraction};
 use super::random::Random;
-use crate::layout::{has_pole, wrong_rows, Job, Row, MOST_ROWS, PRIMES};
+use crate::layout::{has_pole, wrong_rows, HeaderForm, Job, Row, MOST_ROWS, PRIMES};
 use crate::second::polynomial::Polynomial;
 use crate::second::Field;
 
@@ -92,6 +92,7 @@ pub fn planted(random: &mut Random, shape: Shape, wrong: WrongRows) -> Planted {
 
 /// The least that a shape asks of a header.
 struct Least {
+    /// Of the bound of every f.
     numerator_bound: usize,
     denominator_bound: usize,
     bounds_sum: usize,
@@ -162,15 +163,37 @@ fn sized(
     };
     let rows = points.into_iter().map(row).collect();
     let mut job = Job {
+        header: HeaderForm::Short,
         prime_code,
-        outputs,
-        numerator_bound: 0,
+        numerator_bounds: vec![0; outputs],
         denominator_bound: 0,
         error_bound: 0,
         rows,
     };
     draw_bounds(random, &mut job, least, wrong);
+    draw_header(random, &mut job, least.numerator_bound);
     job
+}
+
+/// Takes the longer header for two jobs of three; it mostly has a bound of each output's own, this one at least. df, which
+/// is every bound before, stays that of one output, and often of this one alone.
+pub fn draw_header(random: &mut Random, job: &mut Job, least: usize) {
+    if random.once_in(3) {
+        return;
+    }
+    job.header = HeaderForm::Longer;
+    let (df, largest) = (job.numerator_bound(), random.below(job.outputs()));
+    let highest = match random.below(5) {
+        0 => return,
+        1 => df,
+        _ => least.max(df.saturating_sub(1)),
+    };
+    for (output, bound) in job.numerator_bounds.iter_mut().enumerate() {
+        let any = random.between(least, highest);
+        if output != largest {
+            *bound = random.one_of(&[any, any, any, least, highest]);
+        }
+    }
 }
 
 /// Bounds that the rows suffice for, mostly the largest.
@@ -186,7 +209,8 @@ fn draw_bounds(random: &mut Random, job: &mut Job, least: &Least, wrong: WrongRo
         _ => room,
     };
     job.denominator_bound = random.between(least.denominator_bound, sum - least.numerator_bound);
-    job.numerator_bound = sum - job.denominator_bound;
+    let df = sum - job.denominator_bound;
+    job.numerator_bounds.fill(df);
 }
 
 /// Different points in random order; the ends of the range are drawn often.
@@ -221,7 +245,7 @@ fn fill_values(random: &mut Random, job: &mut Job, fraction: &Fraction) {
                     random.residue(field.prime())
                 }
             };
-            (0..job.outputs).map(residue).collect()
+            fraction.numerators.iter().map(residue).collect()
         } else {
             let unit = field.reciprocal(below);
             let value = |f: &Polynomial| field.multiply(f.value_at(row.point, field), unit);
@@ -240,9 +264,7 @@ pub fn spoil(
     wrong_count: usize,
 ) -> Option<u32> {
     let prime = job.prime();
-    let other: Vec<Polynomial> = (0..job.outputs)
-        .map(|_| numerator(random, job.numerator_bound, prime))
-        .collect();
+    let other = numerators_within(random, &job.numerator_bounds, prime);
     let style = random.below(3);
     loop {
         let word = wrong_rows(job, denominator, numerators);

@@ -1,7 +1,8 @@
 //! Counts of a run, with the floors below which it fails.
 
-use super::GeneratedJob;
-use crate::layout::{MOST_ROWS, PRIMES};
+use super::header_tally::HeaderTally;
+use super::{Expected, GeneratedJob, OTHER_FAULTS};
+use crate::layout::{trimmed, Answer, HeaderForm, Job, MOST_ROWS, PRIMES};
 use hanthuvelo::Report;
 use std::collections::BTreeMap;
 
@@ -24,9 +25,12 @@ pub enum Kind {
     MoreRowsThanPrime,
     RandomValues,
     DamagedBytes,
+    DamagedAddedHeader,
     RandomBytes,
+    BeyondOwnBound,
     Refused1,
-    Refused2,
+    /// By paper 01 refused with 2; now with 1 or 11.
+    SpareBit,
     Refused3,
     Refused4,
     Refused5,
@@ -35,7 +39,7 @@ pub enum Kind {
 }
 
 /// Each kind with its floor, in jobs out of a thousand.
-const KIND_FLOORS: [(Kind, usize); 24] = [
+const KIND_FLOORS: [(Kind, usize); 26] = [
     (Kind::NoErrors, 30),
     (Kind::FewerErrors, 150),
     (Kind::ExactErrors, 250),
@@ -52,9 +56,11 @@ const KIND_FLOORS: [(Kind, usize); 24] = [
     (Kind::MoreRowsThanPrime, 5),
     (Kind::RandomValues, 15),
     (Kind::DamagedBytes, 15),
+    (Kind::DamagedAddedHeader, 4),
     (Kind::RandomBytes, 15),
-    (Kind::Refused1, 7),
-    (Kind::Refused2, 7),
+    (Kind::BeyondOwnBound, 30),
+    (Kind::Refused1, 15),
+    (Kind::SpareBit, 15),
     (Kind::Refused3, 15),
     (Kind::Refused4, 15),
     (Kind::Refused5, 15),
@@ -62,14 +68,28 @@ const KIND_FLOORS: [(Kind, usize); 24] = [
     (Kind::Refused7, 15),
 ];
 
-/// Floors of the outcomes, out of a thousand: answered, then the refusals 1 to 8.
-const OUTCOME_FLOORS: [usize; 9] = [500, 7, 7, 15, 15, 15, 15, 15, 100];
+/// Floors of the outcomes, out of a thousand: answered, then each refusal of a job.
+const OUTCOME_FLOORS: [(u32, usize); 9] = [
+    (0, 500),
+    (1, 20),
+    (11, 50),
+    (3, 15),
+    (4, 15),
+    (5, 15),
+    (6, 15),
+    (7, 15),
+    (8, 100),
+];
 
 #[derive(Default)]
 pub struct Tally {
     jobs: usize,
     kinds: [usize; KIND_FLOORS.len()],
-    outcomes: [usize; 9],
+    /// By the number of the refusal, 0 for none.
+    outcomes: [usize; 12],
+    headers: HeaderTally,
+    /// Answered, with a bound of the longer header above the degree of its f.
+    loose_own_bound: usize,
     /// Answered with exactly E wrong rows, E not 0.
     all_errors_used: usize,
     /// Answered, with a root of g among the points.
@@ -89,15 +109,19 @@ impl Tally {
             self.kinds[*kind as usize] += 1;
         }
         self.outcomes[report.refusal as usize] += 1;
+        self.headers.count(&job.bytes, job.broken);
         if !report.is_recovered() {
             return;
         }
-        let error_bound = u32::from(job.bytes[2] >> 1 & 15);
-        self.primes[usize::from(job.bytes[0] >> 6)] += 1;
-        let outputs = usize::from(job.bytes[0] >> 4 & 3) + 1;
-        let row_count = (job.bytes.len() - 3) / (2 * (1 + outputs));
-        self.sizes[outputs - 1][row_count] += 1;
-        self.all_errors_used += usize::from(error_bound > 0 && report.wrong == error_bound);
+        let read = Job::unpack(&job.bytes);
+        self.headers.count_sound(&read);
+        if let Expected::Answered { bytes, .. } = &job.expected {
+            self.loose_own_bound += usize::from(has_loose_bound(&read, bytes));
+        }
+        let wrong = report.wrong as usize;
+        self.primes[read.prime_code] += 1;
+        self.sizes[read.outputs() - 1][read.rows.len()] += 1;
+        self.all_errors_used += usize::from(wrong > 0 && wrong == read.error_bound);
         self.answered_with_pole += usize::from(job.kinds.contains(&Kind::Pole));
         self.answered_otherwise += usize::from(job.kinds.contains(&Kind::OneErrorTooMany));
     }
@@ -110,7 +134,7 @@ impl Tally {
     /// Counts of outcomes as (name, count, floor).
     fn outcome_lines(&self) -> Vec<(String, usize, usize)> {
         let (exact, pole) = (self.all_errors_used, self.answered_with_pole);
-        let (otherwise, answered) = (self.answered_otherwise, self.outcomes[0]);
+        let (otherwise, loose) = (self.answered_otherwise, self.loose_own_bound);
         let line =
             |name: &str, count, thousandths| (name.to_string(), count, self.floor(thousandths));
         let mut lines = vec![
@@ -118,11 +142,11 @@ impl Tally {
             line("answered, exactly E > 0 wrong", exact, 250),
             line("answered, pole among points", pole, 100),
             line("E + 1 wrong, answered otherwise", otherwise, 5),
-            line("answered", answered, OUTCOME_FLOORS[0]),
+            line("answered, a bound above its degree", loose, 100),
         ];
-        let refusals = self.outcomes.iter().zip(OUTCOME_FLOORS).enumerate().skip(1);
-        for (number, (&count, thousandths)) in refusals {
-            lines.push((format!("refused {number}"), count, self.floor(thousandths)));
+        for (number, thousandths) in OUTCOME_FLOORS {
+            let count = self.outcomes[number as usize];
+            lines.push((outcome(number, "answered"), count, self.floor(thousandths)));
         }
         lines
     }
@@ -149,7 +173,23 @@ impl Tally {
 
     /// All counts as text, and whether each reaches its floor.
     pub fn summary(&self) -> (String, bool) {
-        with_floors(self.outcome_lines().into_iter().chain(self.input_lines()))
+        let lines = self.outcome_lines().into_iter().chain(self.input_lines());
+        with_floors(lines.chain(self.headers.lines(&OTHER_FAULTS)))
+    }
+}
+
+/// Whether a bound of the longer header is above the degree of its f in the answer of these bytes.
+fn has_loose_bound(job: &Job, answer: &[u8]) -> bool {
+    let numerators = Answer::unpack(answer, job).numerators;
+    let mut lists = numerators.iter();
+    job.header == HeaderForm::Longer && lists.any(|list| trimmed(list).len() < list.len())
+}
+
+/// What became of a job, by the number of its refusal; with 0 what is said here.
+pub fn outcome(refusal: u32, not_refused: &str) -> String {
+    match refusal {
+        0 => not_refused.to_string(),
+        number => format!("refused {number}"),
     }
 }
 

@@ -4,10 +4,12 @@
 mod fault;
 mod tally;
 
+use super::added::Broken;
 use super::fraction::Fraction;
+use super::planned;
 use super::planted::{header, Shape, WrongRows};
 use super::random::Random;
-use crate::layout::{Answer, Job, PRIMES};
+use crate::layout::{Answer, HeaderForm, Job, LONGEST_JOB, PRIMES};
 use crate::second::polynomial::Polynomial;
 use crate::second::Field;
 use fault::Fault;
@@ -27,6 +29,8 @@ pub struct TrialCall {
     pub area: Vec<u8>,
     /// The number of the refusal, 0 where a job is written; none where it is not known.
     pub expected: Option<u32>,
+    /// How the added header is broken, if it was made so.
+    broken: Option<Broken>,
 }
 
 /// How many rows are to be spoiled.
@@ -45,15 +49,20 @@ enum Source {
     /// g and every f but one have a common divisor.
     PartlyCommon,
     Faulty(Fault),
+    /// The added header breaks a rule.
+    Broken,
     DamagedOrRandom,
 }
 
-/// Where calls come from, with the share of each in fifty calls; a call with each fault follows.
-const PLAN: [(Source, usize); 14] = [
-    (Source::Sound(Shape::Any, Spoiled::Within), 8),
-    (Source::Sound(Shape::Poles, Spoiled::Within), 8),
+/// What else is wrong where an added header is broken.
+const OTHER_FAULTS: [u32; 8] = [0, 1, 3, 4, 5, 7, 9, 10];
+
+/// Where calls come from, with the share of each; a call with each fault follows.
+const PLAN: [(Source, usize); 15] = [
+    (Source::Sound(Shape::Any, Spoiled::Within), 9),
+    (Source::Sound(Shape::Poles, Spoiled::Within), 9),
     (Source::Sound(Shape::Any, Spoiled::Any), 3),
-    (Source::Sound(Shape::Poles, Spoiled::Any), 4),
+    (Source::Sound(Shape::Poles, Spoiled::Any), 5),
     (Source::Sound(Shape::WholeField, Spoiled::Within), 2),
     (Source::Sound(Shape::WholeField, Spoiled::All), 1),
     (Source::Sound(Shape::Any, Spoiled::All), 2),
@@ -63,13 +72,15 @@ const PLAN: [(Source, usize); 14] = [
     (Source::Sound(Shape::AllZero, Spoiled::Within), 1),
     (Source::Sound(Shape::LooseBounds, Spoiled::Within), 1),
     (Source::PartlyCommon, 2),
+    (Source::Broken, 3),
     (Source::DamagedOrRandom, 1),
 ];
 
 /// The call of this number in the run of this seed.
 pub fn generate(seed: u64, index: u64) -> TrialCall {
     let mut random = Random::new(seed, index);
-    let mut call = match source_of(index) {
+    let (source, turn) = source_of(index);
+    let mut call = match source {
         Source::Sound(shape, spoiled) => {
             let mut draft = Draft::draw(&mut random, shape);
             draft.spoil(&mut random, spoiled);
@@ -77,6 +88,7 @@ pub fn generate(seed: u64, index: u64) -> TrialCall {
         }
         Source::PartlyCommon => partly_common(&mut random),
         Source::Faulty(fault) => fault::faulty(&mut random, fault),
+        Source::Broken => fault::broken(&mut random, Broken::of_turn(turn, &OTHER_FAULTS)),
         Source::DamagedOrRandom => fault::damaged_or_random(&mut random),
     };
     call.seed = seed;
@@ -84,14 +96,9 @@ pub fn generate(seed: u64, index: u64) -> TrialCall {
     call
 }
 
-fn source_of(index: u64) -> Source {
-    let planned = PLAN
-        .iter()
-        .flat_map(|&(source, parts)| std::iter::repeat_n(source, parts));
-    let mut slots = planned.chain(Fault::ALL.into_iter().map(Source::Faulty));
-    slots
-        .nth((index % 50) as usize)
-        .expect("the plan has 50 parts")
+fn source_of(index: u64) -> (Source, usize) {
+    let faults = Fault::ALL.map(|fault| (Source::Faulty(fault), 1));
+    planned(&[&PLAN[..], &faults].concat(), index)
 }
 
 /// What a call is made from: the header's fields, of the rows only their number, and polynomials.
@@ -156,7 +163,7 @@ impl Draft {
         let (label, length) = match random.below(3) {
             0 => ("exact area", length),
             1 => ("longer area", length + random.between(1, 40)),
-            _ => ("longer area", 1 + length.max(313)),
+            _ => ("longer area", 1 + LONGEST_JOB),
         };
         let listed = Answer {
             word: 0,
@@ -171,12 +178,13 @@ impl Draft {
             seed: 0,
             index: 0,
             labels: vec![label],
-            header: self.job.pack()[..3].to_vec(),
+            header: self.job.packed_header(),
             coefficients: listed.pack(&self.job)[4..].to_vec(),
             start: any_start(random),
             spoiled: self.spoiled,
             area: filled(random, length),
             expected: Some(0),
+            broken: None,
         }
     }
 }
@@ -217,12 +225,20 @@ impl Draft {
     }
 }
 
-/// The fields of a header of three bytes that the generator and the counts need.
+/// The fields of a header that the generator and the counts need.
 pub struct Fields {
+    pub form: HeaderForm,
     pub prime: u32,
     pub outputs: usize,
     pub row_count: usize,
     pub error_bound: usize,
+}
+
+impl Fields {
+    /// How many bytes the job has.
+    pub fn job_length(&self) -> usize {
+        self.form.length() + 2 * self.row_count * (1 + self.outputs)
+    }
 }
 
 impl TrialCall {
@@ -230,6 +246,7 @@ impl TrialCall {
     pub fn fields(&self) -> Fields {
         let [first, second, third] = [0, 1, 2].map(|place| usize::from(self.header[place]));
         Fields {
+            form: HeaderForm::of(&self.header),
             prime: PRIMES[first / 64],
             outputs: first / 16 % 4 + 1,
             row_count: first % 16 * 2 + second / 128,
@@ -240,10 +257,11 @@ impl TrialCall {
     /// Everything needed to try the call again.
     pub fn describe(&self) -> String {
         format!(
-            "seed {} call {} {:?}\nheader {} coefficients {} start {:08X} spoiled {}\narea before {}",
+            "seed {} call {} {:?} {:?}\nheader {} coefficients {} start {:08X} spoiled {}\narea before {}",
             self.seed,
             self.index,
             self.labels,
+            self.broken,
             hex::text(&self.header),
             hex::text(&self.coefficients),
             self.start,

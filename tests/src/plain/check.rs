@@ -3,7 +3,7 @@
 use super::reader::{read_header, refuse_repeated_point, Refusal};
 use hanthuvelo::Form;
 
-/// The first of the refusals 1 to 6 that applies to the job, if one does.
+/// The first of the refusals 1, 11, 3, 4, 5 and 6 that applies to the job, if one does.
 pub fn check(job: &[u8]) -> Form {
     match look(job) {
         Ok(()) => Form::ACCEPTED,
@@ -14,7 +14,7 @@ pub fn check(job: &[u8]) -> Form {
 fn look(job: &[u8]) -> Result<(), Refusal> {
     let header = read_header(job)?;
     let mut points = [0; 31];
-    let rows = job[3..].chunks_exact(2 * (1 + header.outputs));
+    let rows = job[header.length..].chunks_exact(2 * (1 + header.outputs));
     for ((row, stretch), point) in rows.enumerate().zip(&mut points) {
         *point = number(stretch);
         let mut numbers = stretch.chunks_exact(2).map(number);

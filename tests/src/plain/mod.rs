@@ -97,15 +97,16 @@ fn extend<const PRIME: u32>(
     numerator: Polynomial,
     factor: Polynomial,
 ) -> Option<()> {
-    if !numerator.has_degree_at_most(problem.numerator_bound) {
+    if !numerator.has_degree_at_most(problem.numerator_bounds[output]) {
         return None;
     }
     let product = fraction
         .denominator
         .times::<PRIME>(&factor, problem.denominator_bound)?;
     fraction.denominator = product;
-    for earlier in &mut fraction.numerators[..output] {
-        *earlier = earlier.times::<PRIME>(&factor, problem.numerator_bound)?;
+    let earlier = fraction.numerators[..output].iter_mut();
+    for (numerator, &bound) in earlier.zip(&problem.numerator_bounds) {
+        *numerator = numerator.times::<PRIME>(&factor, bound)?;
     }
     fraction.numerators[output] = numerator;
     Some(())
@@ -138,8 +139,9 @@ fn write_answer(problem: &Problem, fraction: &Fraction, word: u32, area: &mut [u
         }
     };
     write(&fraction.denominator, problem.denominator_bound);
-    for numerator in &fraction.numerators[..problem.outputs] {
-        write(numerator, problem.numerator_bound);
+    let numerators = fraction.numerators[..problem.outputs].iter();
+    for (numerator, &bound) in numerators.zip(&problem.numerator_bounds) {
+        write(numerator, bound);
     }
     place
 }

@@ -1,5 +1,5 @@
 //! The equations of source document 001, (14), with one value for each output in a row:
-//! Φi(x) = yi Ψ(x) for every row and output, deg Φi ≤ df + E, deg Ψ ≤ dg + E.
+//! Φi(x) = yi Ψ(x) for every row and output, deg Φi ≤ dfi + E with the bound dfi of fi, deg Ψ ≤ dg + E.
 
 use super::field::Field;
 use super::polynomial::Polynomial;
@@ -10,34 +10,45 @@ type Matrix = Vec<Vec<u32>>;
 /// A nonzero solution as (Φ1 .. Φn, Ψ), or `None` where only zero solves the equations.
 pub fn kernel_vector(field: Field, problem: &Problem) -> Option<(Vec<Polynomial>, Polynomial)> {
     let solution = nonzero_solution(field, matrix(field, problem))?;
-    let width = problem.numerator_bound + problem.error_bound + 1;
-    let (numerators, denominator) = solution.split_at(problem.outputs * width);
-    let numerators = numerators
-        .chunks(width)
-        .map(|part| Polynomial::new(part.to_vec()))
-        .collect();
-    Some((numerators, Polynomial::new(denominator.to_vec())))
+    let mut rest = &solution[..];
+    let mut polynomial = |width: usize| {
+        let (own, others) = rest.split_at(width);
+        rest = others;
+        Polynomial::new(own.to_vec())
+    };
+    let numerators = numerator_widths(problem).map(&mut polynomial).collect();
+    Some((numerators, polynomial(denominator_width(problem))))
+}
+
+/// How many coefficients each of Φ1 .. Φn has.
+fn numerator_widths(problem: &Problem) -> impl Iterator<Item = usize> + '_ {
+    let bounds = problem.numerator_bounds.iter();
+    bounds.map(|bound| bound + problem.error_bound + 1)
+}
+
+fn denominator_width(problem: &Problem) -> usize {
+    problem.denominator_bound + problem.error_bound + 1
 }
 
 /// One line for each row and output; the columns are the coefficients of Φ1 .. Φn and then of Ψ.
 fn matrix(field: Field, problem: &Problem) -> Matrix {
-    let width = problem.numerator_bound + problem.error_bound + 1;
-    let denominator_start = problem.outputs * width;
-    let columns = denominator_start + problem.denominator_bound + problem.error_bound + 1;
+    let denominator_start: usize = numerator_widths(problem).sum();
     let mut lines = Vec::new();
-    for output in 0..problem.outputs {
+    let mut start = 0;
+    for (output, width) in numerator_widths(problem).enumerate() {
         for row in &problem.rows {
-            let mut line = vec![0; columns];
+            let mut line = vec![0; denominator_start + denominator_width(problem)];
             for power in 0..width {
-                line[output * width + power] = field.power(row.point, power as u32);
+                line[start + power] = field.power(row.point, power as u32);
             }
             let negated = field.subtract(0, row.values[output]);
-            for power in 0..columns - denominator_start {
+            for power in 0..denominator_width(problem) {
                 let product = field.multiply(negated, field.power(row.point, power as u32));
                 line[denominator_start + power] = product;
             }
             lines.push(line);
         }
+        start += width;
     }
     lines
 }

@@ -56,7 +56,8 @@ pub fn recover(job: &[u8], area: &mut [u8]) -> Report {
 ///
 /// One kernel vector (Φ, Ψ) decides. Suppose (f, g) is an answer. At each right row x,
 /// g(x) Φi(x) = g(x) yi Ψ(x) = fi(x) Ψ(x), so g Φi − fi Ψ vanishes at L − E ≥ df + dg + E + 1
-/// points at least. Its degree is at most df + dg + E, so it is zero: g Φi = fi Ψ for every i.
+/// points at least. Its degree is at most dfi + dg + E with the bound dfi of fi, and df is the
+/// largest of these, so it is zero: g Φi = fi Ψ for every i.
 /// Ψ = 0 would make every Φi zero too, and the vector is not zero. So Φ/Ψ = f/g, and both have the
 /// same reduced form, which is (f, g). A reduced form that fails a test below therefore shows that
 /// no answer exists. So does Ψ = 0, and so do equations that only zero solves: with Λ, the product
@@ -109,7 +110,8 @@ fn within_bounds(problem: &Problem, candidate: &Candidate) -> bool {
         && candidate
             .numerators
             .iter()
-            .all(|numerator| numerator.has_degree_at_most(problem.numerator_bound))
+            .zip(&problem.numerator_bounds)
+            .all(|(numerator, &bound)| numerator.has_degree_at_most(bound))
 }
 
 /// Paper 01's "right": fi(x) = g(x) yi for every output.
@@ -131,8 +133,9 @@ fn answer_bytes(problem: &Problem, solution: &Solution) -> Vec<u8> {
         }
     };
     push(&solution.candidate.denominator, problem.denominator_bound);
-    for numerator in &solution.candidate.numerators {
-        push(numerator, problem.numerator_bound);
+    let numerators = solution.candidate.numerators.iter();
+    for (numerator, &bound) in numerators.zip(&problem.numerator_bounds) {
+        push(numerator, bound);
     }
     bytes
 }

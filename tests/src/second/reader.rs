@@ -1,4 +1,4 @@
-//! The job bytes and the refusals 1 to 7 of paper 01, each test in its own function.
+//! The job bytes and the refusals before 8, from paper 01 with the longer header of paper 02: 1, 11, 3 to 7, in this order.
 
 /// The primes by their codes.
 pub const PRIMES: [u32; 4] = [7, 97, 257, 65521];
@@ -16,22 +16,26 @@ pub struct Row {
 /// A well formed job.
 pub struct Problem {
     pub prime: u32,
-    pub outputs: usize,
-    pub numerator_bound: usize,
+    /// The bound of each output's f.
+    pub numerator_bounds: Vec<usize>,
     pub denominator_bound: usize,
     pub error_bound: usize,
     pub rows: Vec<Row>,
 }
 
-/// The fields of the three bytes that a job begins with.
+/// The fields of the three or seven bytes that a job begins with.
 pub struct Header {
+    /// How many bytes it has.
+    pub length: usize,
     code: usize,
     pub outputs: usize,
     pub row_count: usize,
-    pub numerator_bound: usize,
+    /// df, the largest bound of an f.
+    numerator_bound: usize,
+    /// The bound of each output's f.
+    pub numerator_bounds: Vec<usize>,
     pub denominator_bound: usize,
     error_bound: usize,
-    pub spare: usize,
 }
 
 impl Header {
@@ -42,6 +46,11 @@ impl Header {
     /// df + dg + 2E + 1.
     pub fn needed_rows(&self) -> usize {
         self.numerator_bound + self.denominator_bound + 2 * self.error_bound + 1
+    }
+
+    /// How many bytes a job with this header has.
+    pub fn job_length(&self) -> usize {
+        self.length + 2 * self.row_count * (1 + self.outputs)
     }
 }
 
@@ -55,20 +64,14 @@ pub fn read(bytes: &[u8], area_length: usize) -> Result<Problem, Refusal> {
 /// The job that `bytes` hold, or the first refusal that applies before 7; no area is lent.
 pub fn read_form(bytes: &[u8]) -> Result<Problem, Refusal> {
     let header = read_header(bytes)?;
-    refuse_if(header.spare == 1, 2, 0)?;
-    refuse_if(
-        bytes.len() != 3 + 2 * header.row_count * (1 + header.outputs),
-        3,
-        0,
-    )?;
+    refuse_if(bytes.len() != header.job_length(), 3, 0)?;
     refuse_if(header.row_count < header.needed_rows(), 4, 0)?;
     let problem = Problem {
         prime: header.prime(),
-        outputs: header.outputs,
-        numerator_bound: header.numerator_bound,
+        rows: read_rows(&bytes[header.length..], header.outputs),
+        numerator_bounds: header.numerator_bounds,
         denominator_bound: header.denominator_bound,
         error_bound: header.error_bound,
-        rows: read_rows(&bytes[3..], header.outputs),
     };
     refuse_row(first_row_out_of_range(&problem), 5)?;
     refuse_row(first_row_with_used_point(&problem), 6)?;
@@ -93,32 +96,58 @@ fn refuse_row(found: Option<usize>, number: u32) -> Result<(), Refusal> {
     }
 }
 
-/// The 24 header bits as one number, taken apart from its low end.
+/// A number that is taken apart from its low end.
+struct LowEnd(usize);
+
+impl LowEnd {
+    fn take(&mut self, width: u32) -> usize {
+        let size = 1 << width;
+        let number = self.0 % size;
+        self.0 /= size;
+        number
+    }
+}
+
+/// The header, or refusal 1 or 11.
 pub fn read_header(bytes: &[u8]) -> Result<Header, Refusal> {
     refuse_if(bytes.len() < 3, 1, 0)?;
-    let mut rest = u32::from_be_bytes([0, bytes[0], bytes[1], bytes[2]]) as usize;
-    let mut take = |width: u32| {
-        let size = 1 << width;
-        let number = rest % size;
-        rest /= size;
-        number
-    };
-    let spare = take(1);
-    let error_bound = take(4);
-    let denominator_bound = take(5);
-    let numerator_bound = take(5);
-    let row_count = take(5);
-    let outputs = take(2) + 1;
-    let code = take(2);
-    Ok(Header {
-        code,
+    let mut rest = LowEnd(u32::from_be_bytes([0, bytes[0], bytes[1], bytes[2]]) as usize);
+    let spare = rest.take(1);
+    let error_bound = rest.take(4);
+    let denominator_bound = rest.take(5);
+    let numerator_bound = rest.take(5);
+    let row_count = rest.take(5);
+    let outputs = rest.take(2) + 1;
+    let mut header = Header {
+        length: 3,
+        code: rest.take(2),
         outputs,
         row_count,
         numerator_bound,
+        numerator_bounds: vec![numerator_bound; outputs],
         denominator_bound,
         error_bound,
-        spare,
-    })
+    };
+    if spare == 1 {
+        refuse_if(bytes.len() < 7, 1, 0)?;
+        read_added(&mut header, [bytes[3], bytes[4], bytes[5], bytes[6]])?;
+    }
+    Ok(header)
+}
+
+/// The added header's bounds take the place of df; refused with 11 where it breaks a rule.
+fn read_added(header: &mut Header, added: [u8; 4]) -> Result<(), Refusal> {
+    let mut rest = LowEnd(u32::from_be_bytes(added) as usize);
+    let flags = rest.take(12);
+    let mut bounds = [0; 4].map(|_: usize| rest.take(5));
+    bounds.reverse();
+    let (existing, absent) = bounds.split_at(header.outputs);
+    let is_largest = existing.iter().max() == Some(&header.numerator_bound);
+    let is_sound = is_largest && absent.iter().all(|&bound| bound == 0) && flags == 0;
+    refuse_if(!is_sound, 11, 0)?;
+    header.length = 7;
+    header.numerator_bounds = existing.to_vec();
+    Ok(())
 }
 
 fn read_rows(bytes: &[u8], outputs: usize) -> Vec<Row> {
@@ -148,7 +177,11 @@ fn first_row_with_used_point(problem: &Problem) -> Option<usize> {
 }
 
 pub fn answer_length(problem: &Problem) -> usize {
-    let coefficients =
-        problem.denominator_bound + 1 + problem.outputs * (problem.numerator_bound + 1);
-    4 + 2 * coefficients
+    4 + 2 * coefficient_count(&problem.numerator_bounds, problem.denominator_bound)
+}
+
+/// How many coefficients g and every f have together, each up to its bound.
+pub fn coefficient_count(numerator_bounds: &[usize], denominator_bound: usize) -> usize {
+    let numerators: usize = numerator_bounds.iter().map(|bound| bound + 1).sum();
+    denominator_bound + 1 + numerators
 }

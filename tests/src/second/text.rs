@@ -5,7 +5,7 @@ use super::{reader, solve};
 use std::fmt::Write;
 
 /// The program reads no more than this.
-const LONGEST_INPUT: usize = 314;
+const LONGEST_INPUT: usize = 318;
 /// No answer needs more.
 const LONGEST_ANSWER: usize = 254;
 

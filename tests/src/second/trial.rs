@@ -1,6 +1,6 @@
-//! The second writer of trial jobs: item 1 of paper 02, written from that alone.
+//! The second writer of trial jobs: items 1 and 5 of paper 02, written from these alone.
 
-use super::reader::{read_header, refuse_if, Header, Refusal};
+use super::reader::{coefficient_count, read_header, refuse_if, Header, Refusal};
 use super::reduced::is_reduced;
 use super::Field;
 use hanthuvelo::Written;
@@ -155,7 +155,7 @@ impl Trial {
     }
 }
 
-/// The trial that the bytes describe, or the first refusal in the order of item 1.
+/// The trial that the bytes describe, or the first refusal in the order of items 1 and 5.
 fn read(
     header: &[u8],
     coefficients: &[u8],
@@ -164,27 +164,31 @@ fn read(
 ) -> Result<Trial, Refusal> {
     let fields = read_header(header)?;
     let Header {
-        outputs, row_count, ..
+        row_count,
+        denominator_bound,
+        ..
     } = fields;
-    refuse_if(fields.spare == 1, 2, 0)?;
-    let widths = [fields.denominator_bound + 1, fields.numerator_bound + 1];
-    let count = widths[0] + outputs * widths[1];
-    refuse_if(header.len() > 3 || coefficients.len() != 2 * count, 3, 0)?;
+    let count = coefficient_count(&fields.numerator_bounds, denominator_bound);
+    let has_surplus = header.len() > fields.length;
+    refuse_if(has_surplus || coefficients.len() != 2 * count, 3, 0)?;
     refuse_if(row_count < fields.needed_rows(), 4, 0)?;
     let field = Field::new(fields.prime());
     let beyond_field = row_count > field.prime() as usize;
     refuse_if(beyond_field || spoiled > row_count as u32, 9, 0)?;
     let number = |pair: &[u8]| u32::from(pair[0]) * 256 + u32::from(pair[1]);
-    let numbers: Vec<u32> = coefficients.chunks(2).map(number).collect();
-    refuse_if(numbers.iter().any(|&number| number >= field.prime()), 5, 0)?;
-    let (denominator, numerators) = numbers.split_at(widths[0]);
-    let numerators: Vec<Vec<u32>> = numerators.chunks(widths[1]).map(<[u32]>::to_vec).collect();
-    refuse_if(!is_reduced(denominator, &numerators, field), 10, 0)?;
-    refuse_if(area_length < 3 + 2 * row_count * (1 + outputs), 7, 0)?;
+    let mut numbers = coefficients.chunks(2).map(number);
+    let mut take = |bound: usize| -> Vec<u32> { numbers.by_ref().take(bound + 1).collect() };
+    let denominator = take(denominator_bound);
+    let bounds = fields.numerator_bounds.iter();
+    let numerators: Vec<Vec<u32>> = bounds.map(|&bound| take(bound)).collect();
+    let mut all = denominator.iter().chain(numerators.iter().flatten());
+    refuse_if(all.any(|&number| number >= field.prime()), 5, 0)?;
+    refuse_if(!is_reduced(&denominator, &numerators, field), 10, 0)?;
+    refuse_if(area_length < fields.job_length(), 7, 0)?;
     Ok(Trial {
         field,
         row_count,
-        denominator: denominator.to_vec(),
+        denominator,
         numerators,
     })
 }

@@ -14,7 +14,7 @@ use std::path::{Path, PathBuf};
 use walk::Walk;
 
 /// The functions whose contracts are the demands and the requests, each in the sources of its crate.
-pub const ROOTS: [(&str, &str); 16] = [
+pub const ROOTS: [(&str, &str); 17] = [
     ("recovery", "recover"),
     ("enlargement", "recover_both"),
     ("capi", "hanthuvelo_recover"),
@@ -29,6 +29,7 @@ pub const ROOTS: [(&str, &str); 16] = [
     ("form_check", "check"),
     ("checked_recovery", "check_and_recover"),
     ("capi", "hanthuvelo_check"),
+    ("either_header", "recover_either"),
     ("row_word", "word_from"),
     ("row_word", "part"),
 ];

@@ -26,14 +26,14 @@ loop-holds c = let g = c .before .args in (search needs, refl, omega arith, sym 
 add-put-coefficients : tie.Need-add-put-coefficients Inv-loop μ-loop
 add-put-coefficients c =
     let s = c .before .before .before .before in
-    let low = s .before .before .pre .0 .numerators-low (s .loop .i) in
+    let low = s .before .before .pre .0 .numerators-low (s .loop .i) (omega arith) in
     omega arith
 
 put-coefficients-requires : tie.Need-put-coefficients-requires Inv-loop μ-loop
 put-coefficients-requires c κs =
     let s = c .before .before .before .before in
     let g = s .before .before in
-    let low = g .pre .0 .numerators-low (s .loop .i) in
+    let low = g .pre .0 .numerators-low (s .loop .i) (omega arith) in
     let within = output-within (g .args .b) (coefficientsAt (g .args .t4)) (s .loop .i) (g .args .b .outputs) (omega arith) in
     (omega arith, omega arith)
 

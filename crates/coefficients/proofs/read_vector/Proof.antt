@@ -7,7 +7,7 @@ use native.Mathlib.Omega.{arith}
 use lib.ListN.{length}
 use Rattle.format.specs.declared.Bounds.{Bounds}
 use Rattle.answer.specs.Bytes.{numeratorStart}
-use Rattle.coefficients.proofs.Places.{start-is, start-next, ends-within}
+use Rattle.coefficients.proofs.Places.{start-first, start-next, ends-within}
 use Rattle.coefficients.proofs.Numerators.{Filled, filled-none, filled-more}
 use Rattle.coefficients.proofs.read_vector.Statement.{statement}
 use Rattle.coefficients.proofs.read_vector.Tie as tie
@@ -22,7 +22,7 @@ abbrev μ-loop : tie.MeasureT-loop
 loop-holds : tie.Need-loop-holds Inv-loop μ-loop
 loop-holds c =
     let b = c .before .before .before .before .before .args .b in
-    (search needs, omega (arith, start-is b 0), filled-none b _ (c .zero .result) (c .zero .ensures))
+    (search needs, omega (arith, start-first b), filled-none b _ (c .zero .result) (c .zero .ensures))
 
 -- the bound that the code has, and where the numerator ends
 module _ (c : tie.After-numerator-bound Inv-loop μ-loop) where
@@ -33,7 +33,7 @@ module _ (c : tie.After-numerator-bound Inv-loop μ-loop) where
   b = start .args .b
 
   low : c .numerator-bound .result ≤ 31
-  low = let l = start .pre .0 .numerators-low (c .before .before .loop .i) in omega (arith, c .numerator-bound .ensures)
+  low = let l = start .pre .0 .numerators-low (c .before .before .loop .i) (c .before .loop-test .taken) in omega (arith, c .numerator-bound .ensures)
 
   fits : c .before .before .loop .from + 2 * (c .numerator-bound .result + 1) ≤ length (start .args .bytes .now)
   fits = omega (arith, ends-within b (c .before .before .loop .i) (c .before .loop-test .taken), c .numerator-bound .ensures)
@@ -71,7 +71,7 @@ read-vector-spec =
     (λ c κs. search needs)
     (λ c. omega arith)
     loop-holds
-    (λ c κs. search needs)
+    (λ c κs. omega (arith, c .before .before .before .before .before .before .before .pre .0 .few))
     (λ c. omega (arith, low c))
     (λ c κs. (omega (arith, low c), fits c))
     (λ c. omega arith)

@@ -7,6 +7,7 @@ use lib.Dec.{eqb}
 use lib.ListN.{getD}
 use Rattle.field.specs.Primes.{modulusOf}
 use Rattle.format.specs.declared.Bounds.{Bounds}
+use Rattle.header.specs.declared.Header.{Header}
 use Rattle.header.specs.Header.{boundsOf}
 use Rattle.job.specs.Refusals.{outOfRange, repeatedPoint}
 use Rattle.job.proofs.ArrayTests.{repeated-same}
@@ -17,28 +18,34 @@ use Rattle.form_check.proofs.check_rows.Statement.{statement}
 use Rattle.form_check.proofs.check_rows.Tie as tie
 
 abbrev bytes : tie.After-scan-rows → List ℕ
-bytes c = now (c .before .before .before .args .job)
+bytes c = now (c .before .before .before .before .args .job)
+
+-- the bounds that were read
+bounds : (c : tie.Start) → c .args .header .bounds ≡ boundsOf (now (c .args .job))
+bounds c = ap (λ (h : Header). h .bounds) (c .pre .0)
 
 scan-rows-requires : tie.Need-scan-rows-requires
 scan-rows-requires c κs =
-    let pre = c .before .before .pre in (
-      (pre .1 .rows-most, pre .1 .outputs-most, pre .2),
+    let s = c .before .before .before in
+    let narrow = s .pre .1 in (
+      (narrow .length-most, narrow .bounds .rows-most, narrow .bounds .outputs-most, s .pre .2),
       (
-        ap (λ (b : Bounds). b .rows) (pre .0),
-        ap (λ (b : Bounds). b .outputs) (pre .0),
-        c .modulus .ensures ∙ ap (λ (b : Bounds). modulusOf (b .prime)) (pre .0),
+        ap (λ (h : Header). h .length) (s .pre .0),
+        ap (λ (b : Bounds). b .rows) (bounds s),
+        ap (λ (b : Bounds). b .outputs) (bounds s),
+        c .modulus .ensures ∙ ap (λ (b : Bounds). modulusOf (b .prime)) (bounds s),
       ),
     )
 
 test-5 : (c : tie.After-scan-rows) {f : Found} → c .scan-rows .result .found ≡ f → firstBelow (boundsOf (bytes c) .rows) (outOfRange (bytes c)) ≡ f
-test-5 c e = sym (c .scan-rows .ensures .0 ∙ ap (λ (b : Bounds). firstBelow (b .rows) (outOfRange (bytes c))) (c .before .before .before .pre .0)) ∙ e
+test-5 c e = sym (c .scan-rows .ensures .0 ∙ ap (λ (b : Bounds). firstBelow (b .rows) (outOfRange (bytes c))) (bounds (c .before .before .before .before))) ∙ e
 
 test-6 : (c : tie.After-first-repeated) {f : Found} → let scan = c .before .before .before .before .before in c .first-repeated .result ≡ f
     → firstBelow (boundsOf (bytes scan) .rows) (repeatedPoint (bytes scan)) ≡ f
 test-6 c e =
     let scan = c .before .before .before .before .before in
     let points = scan .scan-rows .result .points in
-    let rows = ap (λ (b : Bounds). b .rows) (scan .before .before .before .pre .0) in
+    let rows = ap (λ (b : Bounds). b .rows) (bounds (scan .before .before .before .before)) in
     let same = scan .scan-rows .ensures .1 (c .before .before .enum-told .given .1) in
     sym (repeated-same (bytes scan) points (λ r l. same r (rw rows l)))
     ∙ ap (λ (n : ℕ). firstBelow n (λ r. anyBelow r (λ q. eqb (getD points q 0) (getD points r 0)))) (sym rows)

@@ -16,10 +16,10 @@ use Rattle.form_check.proofs.scan_rows.Statement.{statement}
 use Rattle.form_check.proofs.scan_rows.Tie as tie
 
 abbrev Inv-loop : tie.InvT-loop
-Inv-loop job rows outputs p points₀ r₀ points r = Searching (outOfRange job) rows r × Filled 32 (jobPoint job) (λ k. getD (replicate 32 65536) k 0) r points
+Inv-loop job start rows outputs p points₀ r₀ points r = Searching (outOfRange job) rows r × Filled 32 (jobPoint job) (λ k. getD (replicate 32 65536) k 0) r points
 
 abbrev μ-loop : tie.MeasureT-loop
-μ-loop job rows outputs p points₀ r₀ points r = rows - r
+μ-loop job start rows outputs p points₀ r₀ points r = rows - r
 
 loop-holds : tie.Need-loop-holds Inv-loop μ-loop
 loop-holds c = (search-start _ _, filled-from 32 _ 0 _ refl (λ j l. absurd (omega arith)))
@@ -31,7 +31,7 @@ bytes c = now (c .before .before .args .job)
 test : (c : tie.After-is-out-of-range Inv-loop μ-loop) → let a = c .before .before .before in c .is-out-of-range .result ≡ outOfRange (bytes a) (a .loop .r)
 test c =
     let a = c .before .before .before in
-    c .is-out-of-range .ensures ∙ rw (a .before .before .pre .1 .2) (row-test (bytes a) (a .loop .r) (c .before .row-at .ensures))
+    c .is-out-of-range .ensures ∙ rw (a .before .before .pre .1 .3) (row-test (bytes a) (a .loop .r) (c .before .row-at .ensures))
 
 returns : tie.Need-returns Inv-loop μ-loop
 returns c =

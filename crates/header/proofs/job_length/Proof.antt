@@ -4,20 +4,11 @@ use Rattle.header.proofs.Fields.{rows-bytes}
 use Rattle.header.proofs.job_length.Statement.{statement}
 use Rattle.header.proofs.job_length.Tie as tie
 
-mul-result : tie.Need-mul-result
-mul-result c = search needs
-
-add-result : tie.Need-add-result
-add-result c = search needs
-
 mul-result-2 : tie.Need-mul-result-2
-mul-result-2 c = omega (arith, rows-bytes (c .before .before .args .b) (c .before .before .pre))
+mul-result-2 c = let s = c .before .before .before in omega (arith, rows-bytes (s .args .h .bounds) (s .pre .bounds))
 
 add-result-2 : tie.Need-add-result-2
-add-result-2 c = omega (arith, rows-bytes (c .before .before .args .b) (c .before .before .pre))
-
-returns : tie.Need-returns
-returns c = search needs
+add-result-2 c = let s = c .before .before .before .before in omega (arith, rows-bytes (s .args .h .bounds) (s .pre .bounds), s .pre .length-most)
 
 pub job-length-spec : {M : Type 1} → statement M
-job-length-spec = tie.close (tie.spec mul-result add-result mul-result-2 add-result-2 returns)
+job-length-spec = tie.close (tie.spec (λ c. search needs) (λ c. search needs) mul-result-2 add-result-2 (λ c. search needs))

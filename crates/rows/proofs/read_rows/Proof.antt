@@ -17,13 +17,13 @@ use Rattle.rows.proofs.read_rows.Statement.{statement}
 use Rattle.rows.proofs.read_rows.Tie as tie
 
 abbrev Inv-loop : tie.InvT-loop
-Inv-loop job rows outputs points₀ values₀ r₀ points values r =
+Inv-loop job start rows outputs points₀ values₀ r₀ points values r =
     (r ≤ rows)
     × Filled 32 (λ k. cond (ltb k (boundsOf job .rows)) (jobPoint job k) 0) (λ k. 0) r points
     × Filled 128 (λ k. cond (ltb (k / 4) (boundsOf job .rows)) (valueOrZero job (k / 4) (k % 4)) 0) (λ k. 0) (r * 4) values
 
 abbrev μ-loop : tie.MeasureT-loop
-μ-loop job rows outputs points₀ values₀ r₀ points values r = rows - r
+μ-loop job start rows outputs points₀ values₀ r₀ points values r = rows - r
 
 loop-holds : tie.Need-loop-holds Inv-loop μ-loop
 loop-holds c = (search needs, filled-none 32 _ _ refl, filled-none 128 _ _ refl)

@@ -14,7 +14,7 @@ returns-2 c = simp (le-leb _ _ (c .before .before .if1 .left), lt-leb _ _ (c .if
 
 returns-3 : tie.Need-returns-3
 returns-3 c =
-    ap (λ df. leb df 31) (c .numerator-bound .ensures)
+    ap (λ x. leb x 31) (c .largest-bound .ensures)
     ∙ sym (storable-last (c .before .before .before .before .before .args .b) (c .before .before .before .if1 .left) (c .before .if2 .left))
 
 pub storable-spec : {M : Type 1} → statement M

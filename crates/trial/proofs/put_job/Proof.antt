@@ -2,7 +2,7 @@ use Prim.Native.Nat.{ℕ, _+_, _*_}
 use mathlib.Core.Path.{_≡_, ap, fun-ext, _∙_}
 use borrow.Author.Needs.{needs}
 use native.Mathlib.Omega.{arith}
-use lib.ListN.{getD}
+use lib.ListN.{length, getD}
 use Rattle.field.proofs.Moduli.{modulus-prime}
 use Rattle.format.specs.Bounds.{primeOf}
 use Rattle.poly.specs.Vectors.{coefficientsAt}
@@ -23,7 +23,7 @@ added : (c : tie.After-spoilings) (r : ℕ) → getD (c .spoilings .result .by) 
 added c r =
     let b = start c .args .b in
     ap (λ t. getD t r 0) (c .spoilings .ensures)
-    ∙ added-at (primeOf b) (b .rows) (start c .args .start) (start c .args .spoiled) (start c .pre .2) (omega (arith, start c .pre .1 .rows-most)) r
+    ∙ added-at (primeOf b) (b .rows) (start c .args .start) (start c .args .spoiled) (start c .pre .1) (omega (arith, start c .pre .0 .rows-most)) r
 
 put-rows-requires : tie.Need-put-rows-requires
 put-rows-requires c κs =
@@ -32,10 +32,10 @@ put-rows-requires c κs =
     let b = s .args .b in
     let h = sp .before .before .before .before .before in
     let prime = modulus-prime (b .prime) .two in (
-      s .pre .1,
-      omega (arith, h .put-header .kept .0, s .pre .3),
+      s .pre .0,
+      omega (arith, h .put-header .kept .0, s .pre .2),
+      s .pre .3,
       s .pre .4,
-      s .pre .5,
       (λ r. rw (added sp r) (added-below (primeOf b) (b .rows) (s .args .start) (s .args .spoiled) r prime)),
     )
 
@@ -49,10 +49,10 @@ returns c =
     let count = b .rows * (1 + b .outputs) in
     let second =
     rows .ensures .1
-    ∙ ap (λ by. spliced 3 (coefficientBytes (trialNumbers (primeOf b) (coefficientsAt (s .args .v .f)) (s .args .v .g .c) by (b .rows) (b .outputs)) count) (h .put-header .last .0))
+    ∙ ap (λ by. spliced (length (s .args .header .now)) (coefficientBytes (trialNumbers (primeOf b) (coefficientsAt (s .args .v .f)) (s .args .v .g .c) by (b .rows) (b .outputs)) count) (h .put-header .last .0))
     (fun-ext (added sp)) in (
       omega (arith, rows .ensures .0),
-      behind-header (s .args .header .now) _ (s .args .area .now) (h .put-header .last .0) (rows .last .0) (s .pre .0) (omega (arith, s .pre .3)) (h .put-header .ensures) second,
+      behind-header (s .args .header .now) _ (s .args .area .now) (h .put-header .last .0) (rows .last .0) (omega (arith, s .pre .2)) (h .put-header .ensures) second,
     )
 
 pub put-job-spec : {M : Type 1} → statement M

@@ -4,14 +4,15 @@ use Prim.Native.Nat.{ℕ, _<_, _≤_}
 use mathlib.Core.List.{List}
 use mathlib.Core.Bool.{true}
 use mathlib.Core.Logic.{_⊎_, inl, inr, ⊎-elim, _↔_}
-use mathlib.Core.Path.{_≡_, sym, ap, _∙_}
+use mathlib.Core.Path.{_≡_, refl, sym, ap, _∙_}
 use native.Mathlib.Omega.{arith}
 use denote.Ref.{now}
 use lib.ListN.{length}
 use Rattle.format.specs.declared.Reason.{Reason}
 use Rattle.format.specs.declared.Outcome.the-variants.{Accepted, Refused}
-use Rattle.header.specs.Header.{boundsOf, jobLengthOf}
-use Rattle.header.proofs.Fields.{narrow, rows-bytes, storable}
+use Rattle.header.specs.declared.Header.{Header}
+use Rattle.header.specs.Header.{boundsOf, headerOf, jobLengthOf}
+use Rattle.header.proofs.Fields.{narrow, narrow-header, rows-bytes, storable}
 use Rattle.lists.proofs.Truth.{clash}
 use Rattle.format.specs.Bounds.{primeOf}
 use Rattle.answer.specs.Bytes.{overwritten}
@@ -55,7 +56,7 @@ facts c = trial-facts _ _ _ (passes c)
 
 -- the header that was read
 bounds : (c : tie.After-read-header) → c .read-header .result .bounds ≡ boundsOf (header (start (c .before .before)))
-bounds c = c .read-header .ensures .0
+bounds c = ap (λ (h : Header). h .bounds) (c .read-header .ensures)
 
 -- the vector that was read
 numerators : (c : tie.After-read-vector) → let s = start (c .before .before .before .before) in (i : ℕ) → i < boundsOf (header s) .outputs
@@ -69,9 +70,6 @@ denominator c = rw (bounds (c .before .before)) at (c .read-vector .ensures .0)
 
 returns : tie.Need-returns
 returns c = settle-early _ _ _ _ _ _ _ (sym (c .before .before .before .tested .ensures) ∙ c .before .verdict .given .1)
-
-read-header-requires : tie.Need-read-header-requires
-read-header-requires c κs = omega (arith, facts c .header-bytes)
 
 read-vector-requires : tie.Need-read-vector-requires
 read-vector-requires c κs =
@@ -107,11 +105,11 @@ returns-2 c =
     settle-not-reduced _ _ _ _ _ (passes m) (λ R. clash (sym (same-reduced (c .before) .1 R) ∙ not-true _ (c .if1 .taken)))
 
 job-length-requires : tie.Need-job-length-requires
-job-length-requires c κs = rw (bounds (c .before .before .before .before)) (narrow _)
+job-length-requires c κs = rw (c .before .before .before .before .read-header .ensures) (narrow-header _)
 
 -- the job's length
-total : (c : tie.After-job-length) → let s = start (c .before .before .before .before .before .before .before) in c .job-length .result ≡ jobLengthOf (boundsOf (header s))
-total c = c .job-length .ensures ∙ ap jobLengthOf (bounds (c .before .before .before .before .before))
+total : (c : tie.After-job-length) → let s = start (c .before .before .before .before .before .before .before) in c .job-length .result ≡ jobLengthOf (headerOf (header s))
+total c = c .job-length .ensures ∙ ap jobLengthOf (c .before .before .before .before .before .read-header .ensures)
 
 returns-3 : tie.Need-returns-3
 returns-3 c =
@@ -120,7 +118,7 @@ returns-3 c =
     settle-short _ _ _ _ _ (passes m) (same-reduced (l .before .before) .0 (not-false _ (l .before .if1 .left))) (rw (total l) at (c .if2 .taken))
 
 -- the area is long enough for the job
-enough : (c : tie.Else2) → let s = start (c .before .before .before .before .before .before .before .before) in jobLengthOf (boundsOf (header s)) ≤ length (now (s .args .area))
+enough : (c : tie.Else2) → let s = start (c .before .before .before .before .before .before .before .before) in jobLengthOf (headerOf (header s)) ≤ length (now (s .args .area))
 enough c = rw (total (c .before)) at (c .if2 .left)
 
 put-job-requires : tie.Need-put-job-requires
@@ -130,16 +128,18 @@ put-job-requires c κs =
     let b = bounds (v .before .before) in
     let F = facts (v .before .before .before) in
     let S = vector-stored v in
-    (F .header-bytes, rw b (narrow _), rw b (omega (arith, F .enough-rows)), rw b (enough (c .before)), stored-full (S .0), (λ i l. stored-full (S .1 i l)))
+    (rw b (narrow _), rw b (omega (arith, F .enough-rows)), rw (b, F .header-bytes) (enough (c .before)), stored-full (S .0), (λ i l. stored-full (S .1 i l)))
 
 -- what was written, and how much of it
-written-length : (c : tie.After-put-job) → let s = start (c .before .before .before .before .before .before .before .before .before .before) in c .put-job .result ≡ jobLengthOf (boundsOf (header s))
-written-length c = c .put-job .ensures .0 ∙ ap jobLengthOf (bounds (c .before .before .before .before .before .before .before .before))
+written-length : (c : tie.After-put-job) → let s = start (c .before .before .before .before .before .before .before .before .before .before) in c .put-job .result ≡ jobLengthOf (headerOf (header s))
+written-length c =
+    let read = c .before .before .before .before .before .before .before .before in
+    c .put-job .ensures .0 ∙ rw (bounds read, facts (read .before) .header-bytes) refl
 
 cast-bytes : tie.Need-cast-bytes
 cast-bytes c =
     let s = start (c .before .before .before .before .before .before .before .before .before .before .before .before) in
-    omega (arith, written-length (c .before .before), rows-bytes (boundsOf (header s)) (narrow (header s)))
+    omega (arith, written-length (c .before .before), rows-bytes (boundsOf (header s)) (narrow (header s)), narrow-header (header s) .length-most)
 
 returns-4 : tie.Need-returns-4
 returns-4 c =
@@ -160,7 +160,7 @@ trial-spec =
     (λ c κs. search needs)
     (λ c. search needs)
     returns
-    read-header-requires
+    (λ c κs. search needs)
     read-vector-requires
     reduced-requires
     returns-2

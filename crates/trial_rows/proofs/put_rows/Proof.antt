@@ -14,16 +14,16 @@ use Rattle.trial_rows.proofs.put_rows.Statement.{statement}
 use Rattle.trial_rows.proofs.put_rows.Tie as tie
 
 abbrev Inv-loop : tie.InvT-loop
-Inv-loop area₀ g f by prime width count next₀ k₀ area next k =
-    (k ≤ count) × (length area ≡ length area₀) × (next ≡ 3 + 2 * k)
-    × (area ≡ spliced 3 (coefficientBytes (tabulate count (λ j. trialNumber (modulusOf prime) (coefficientsAt f) (g .c) (λ i. getD by i 0) (j / width) (j % width))) k) area₀)
+Inv-loop area₀ start g f by prime width count next₀ k₀ area next k =
+    (k ≤ count) × (length area ≡ length area₀) × (next ≡ start + 2 * k)
+    × (area ≡ spliced start (coefficientBytes (tabulate count (λ j. trialNumber (modulusOf prime) (coefficientsAt f) (g .c) (λ i. getD by i 0) (j / width) (j % width))) k) area₀)
 
 abbrev μ-loop : tie.MeasureT-loop
-μ-loop area₀ g f by prime width count next₀ k₀ area next k = count - k
+μ-loop area₀ start g f by prime width count next₀ k₀ area next k = count - k
 
 loop-holds : tie.Need-loop-holds Inv-loop μ-loop
 unfolding coefficientBytes
-loop-holds c = (omega arith, refl, refl, sym (splice-none 3 (c .before .before .before .args .area .now)))
+loop-holds c = (omega arith, refl, omega arith, sym (splice-none (c .before .before .before .args .start) (c .before .before .before .args .area .now)))
 
 number-at-requires : tie.Need-number-at-requires Inv-loop μ-loop
 number-at-requires c κs =
@@ -48,7 +48,7 @@ loop-again c =
       r .kept .0 ∙ l .loop .inv .1,
       omega (arith, r .ensures .0),
       next-number (λ j. trialNumber (modulusOf (g .b .prime)) (coefficientsAt (g .f)) (g .g .c) (λ i. getD (g .by .now) i 0) (j / width) (j % width))
-          (g .b .rows * width) k (l .loop .next) (number .result) (g .area .now) (l .loop .area) (r .last .0) (omega arith) (number .ensures) (l .loop .inv .2) room (l .loop .inv .3) (r .ensures .1),
+          (g .b .rows * width) (g .start) k (l .loop .next) (number .result) (g .area .now) (l .loop .area) (r .last .0) (omega arith) (number .ensures) (l .loop .inv .2) room (l .loop .inv .3) (r .ensures .1),
     )
 
 same-length : tie.Need-same-length Inv-loop μ-loop
@@ -59,7 +59,7 @@ unfolding trialNumbers
 returns c =
     let s = c .before .before .before .before .before in
     let all : c .before .loop .k ≡ s .args .b .rows * (1 + s .args .b .outputs) = omega arith in
-    (omega arith, c .before .loop .inv .3 ∙ ap (λ k. spliced 3 (coefficientBytes (trialNumbers (modulusOf (s .args .b .prime)) (coefficientsAt (s .args .f)) (s .args .g .c) (λ i. getD (s .args .by .now) i 0) (s .args .b .rows) (s .args .b .outputs)) k) (s .args .area .now)) all)
+    (omega arith, c .before .loop .inv .3 ∙ ap (λ k. spliced (s .args .start) (coefficientBytes (trialNumbers (modulusOf (s .args .b .prime)) (coefficientsAt (s .args .f)) (s .args .g .c) (λ i. getD (s .args .by .now) i 0) (s .args .b .rows) (s .args .b .outputs)) k) (s .args .area .now)) all)
 
 pub put-rows-spec : {M : Type 1} → statement M
 put-rows-spec =

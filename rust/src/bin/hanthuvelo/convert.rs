@@ -12,7 +12,8 @@ pub const PACK_HELP: &str = "\
 usage: hanthuvelo pack [OPTION].. FILE..
 
 Writes the bytes of each job to standard output, back to back, as `hanthuvelo recover --stream` and `check --stream`
-take them.
+take them. They begin with the short header, of 3 bytes, where a readable job has one number behind `df`, and with the
+longer one, of 7, where it has one for each output, or `long` behind the only one.
 FILE is a job as bytes, or a readable one, told apart by its bytes; - is standard input.
 
   --hex          hexadecimal text, a line for each job

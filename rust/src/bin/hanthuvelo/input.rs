@@ -10,7 +10,7 @@ use std::fs::File;
 use std::io::{self, ErrorKind, Read};
 use std::os::fd::AsFd;
 
-/// A job has 313 bytes at most, a readable one some lines: what is far longer is something else.
+/// A job has 317 bytes at most, a readable one some lines: what is far longer is something else.
 const MOST_BYTES: u64 = 1 << 20;
 
 /// How a file's bytes are taken.

@@ -90,7 +90,7 @@ impl Open {
         }
         let needed = match job_length(rest) {
             Some(length) => length.to_string(),
-            None => format!("at least {}", Header::LENGTH),
+            None => format!("at least {}", Header::length_at(rest)),
         };
         let place = format!("inside job {job}, which begins at byte {byte}");
         let message =

@@ -39,7 +39,9 @@ impl Sort {
                 Form::ACCEPTED
             }
             Sort::Large => {
-                job.rows[last].values[job.outputs - 1] = job.prime();
+                let prime = job.prime();
+                let value = job.rows[last].values.last_mut();
+                *value.expect("an output") = prime;
                 Form::refused(5, last as u32)
             }
             Sort::Repeated => {
@@ -103,7 +105,7 @@ impl Call {
 }
 
 /// Measures every call on jobs of each size and sort.
-pub fn show(sizes: [(&str, Size); 2]) {
+pub fn show(sizes: [(&str, Size); 3]) {
     println!("\nthe form of a job: {JOBS} jobs, nanoseconds for a call, best and middle of {ROUNDS} rounds that take turns");
     for (label, size) in sizes {
         for (sort, name) in SORTS {

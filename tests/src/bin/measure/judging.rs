@@ -16,7 +16,7 @@ struct Pair {
 }
 
 /// Measures the first recovery and the first judge, which are the library's where it is linked.
-pub fn show(sizes: [(&str, Size); 2]) {
+pub fn show(sizes: [(&str, Size); 3]) {
     let (recovery, judge) = (implementations()[0], judges()[0]);
     let rounds = match judge.name {
         "second" => SLOW_ROUNDS,

@@ -5,6 +5,7 @@ mod forms;
 mod judging;
 
 use outside_checks::jobs::measured::{generate, Size};
+use outside_checks::layout::HeaderForm;
 use outside_checks::{implementations, Implementation};
 use std::hint::black_box;
 use std::time::Instant;
@@ -26,6 +27,7 @@ const GROWTH: [(usize, usize, usize); 6] = [
 ];
 
 const FULL: &str = "df 10, dg 8, E 6, 31 rows, 4 outputs";
+const LONGER: &str = "df 10, dg 8, E 6, 31 rows, 4 outputs, the longer header";
 const SMALL: &str = "df 1, dg 0, E 1, 4 rows, 4 outputs";
 
 /// Microseconds for a job, one entry for each round; the least comes first.
@@ -55,8 +57,16 @@ fn main() {
     if cfg!(debug_assertions) {
         println!("NOT OPTIMISED: run with --release");
     }
-    let sizes = [(FULL, Size::FULL), (SMALL, sized(GROWTH[0]))];
-    let [full, small] = sizes.map(|(_, size)| measure_all(size, JOBS));
+    let longer = Size {
+        header: HeaderForm::Longer,
+        ..Size::FULL
+    };
+    let sizes = [
+        (FULL, Size::FULL),
+        (LONGER, longer),
+        (SMALL, sized(GROWTH[0])),
+    ];
+    let [full, longer, small] = sizes.map(|(_, size)| measure_all(size, JOBS));
     println!(
         "library against plain Rust: full job {}, 4 rows {}",
         headline(&full),
@@ -66,7 +76,16 @@ fn main() {
     println!("microseconds for a job: best and middle of {ROUNDS} rounds ({SLOW_ROUNDS} of the second solver)");
     println!("one area of the answer's length for all calls of a round, not cleared between them");
     show(FULL, &full);
+    show(LONGER, &longer);
     show(SMALL, &small);
+    show_all_growth();
+    println!("\nall implementations answered alike on every job");
+    judging::show(sizes);
+    forms::show(sizes);
+}
+
+/// How the times grow with the rows and with the outputs.
+fn show_all_growth() {
     println!("\ngrowth with the rows, 4 outputs, {GROWTH_JOBS} jobs each, best");
     for bounds in GROWTH {
         let size = sized(bounds);
@@ -82,9 +101,6 @@ fn main() {
             },
         );
     }
-    println!("\nall implementations answered alike on every job");
-    judging::show(sizes);
-    forms::show(sizes);
 }
 
 fn sized((numerator_bound, denominator_bound, error_bound): (usize, usize, usize)) -> Size {

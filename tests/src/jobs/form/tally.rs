@@ -1,27 +1,39 @@
 //! Counts of a run, with the floors below which it fails.
 
 use super::large::Large;
-use super::{FormJob, PLAN};
-use crate::jobs::tally::{least, with_floors, Counts};
+use super::{FormJob, OTHER_FAULTS, PLAN};
+use crate::jobs::header_tally::HeaderTally;
+use crate::jobs::tally::{least, outcome, with_floors, Counts};
 use crate::layout::{Job, MOST_ROWS};
 use hanthuvelo::Form;
 use std::collections::BTreeSet;
 
+/// What a job is that no test of its form refuses.
+const ACCEPTED: &str = "accepted";
+
 /// Floors out of ten thousand jobs: of the kinds whose form is not known, and of what was found. Each
 /// kind that fixes the outcome has its whole share as its floor.
-const FLOORS: [(&str, usize); 30] = [
+const FLOORS: [(&str, usize); 37] = [
     ("accepted: AsRecovered", 1000),
     ("refused 5: AsRecovered", 20),
     ("refused 6: AsRecovered", 20),
     ("accepted: Damaged", 25),
     ("refused 3: Damaged", 30),
     ("refused 5: Damaged", 30),
-    ("refused 2: RandomBytes", 30),
+    ("refused 11: Damaged", 20),
+    // By paper 01 refused with 2.
+    ("refused 11: RandomBytes", 30),
+    ("refused 1: SpareBit", 150),
+    ("refused 11: SpareBit", 150),
     ("refused 3: RandomBytes", 30),
     ("refused 5: RandomBytes", 20),
     ("refused 1, no byte", 50),
     ("refused 1, one byte", 50),
     ("refused 1, two bytes", 50),
+    ("refused 1, three bytes", 50),
+    ("refused 1, four bytes", 50),
+    ("refused 1, five bytes", 50),
+    ("refused 1, six bytes", 50),
     ("accepted, with an answer", 1000),
     ("accepted, without an answer", 1000),
     ("accepted, points rising", 300),
@@ -43,14 +55,25 @@ const FLOORS: [(&str, usize); 30] = [
 ];
 
 /// Floors out of a hundred thousand jobs for each prime and for each number of rows, with each number
-/// of outputs: of the accepted jobs, then of those refused with 2 to 6.
+/// of outputs: of the accepted jobs, then of those refused with 11 and 3 to 6.
 const EACH_FLOORS: [(u32, usize, usize); 6] = [
     (0, 500, 60),
-    (2, 100, 0),
+    (11, 100, 0),
     (3, 100, 0),
     (4, 100, 0),
     (5, 500, 60),
     (6, 500, 60),
+];
+
+/// Bytes that are too few for a header.
+const FEW_BYTES: [&str; 7] = [
+    "no byte",
+    "one byte",
+    "two bytes",
+    "three bytes",
+    "four bytes",
+    "five bytes",
+    "six bytes",
 ];
 
 /// Jobs with one outcome and one number of outputs, by prime and by number of rows.
@@ -64,25 +87,28 @@ struct Sizes {
 pub struct Tally {
     jobs: usize,
     counts: Counts,
-    sizes: [[Sizes; 4]; 7],
+    /// By the number of the refusal, 0 for none.
+    sizes: [[Sizes; 4]; 12],
     large: BTreeSet<Large>,
+    headers: HeaderTally,
 }
 
 impl Tally {
     /// Counts a job by what the check of its form found, and by whether a recovery answers it.
     pub fn count(&mut self, job: &FormJob, form: Form, is_answered: bool) {
-        let outcome = outcome(form.refusal);
+        let outcome = outcome(form.refusal, ACCEPTED);
         self.jobs += 1;
         self.large.extend(job.large);
         self.counts.add(&format!("{outcome}: {:?}", job.kind), true);
+        self.headers.count(&job.bytes, job.broken);
         if form.refusal == 1 {
-            let bytes = ["no byte", "one byte", "two bytes"][job.bytes.len()];
+            let bytes = FEW_BYTES[job.bytes.len()];
             return self.counts.add(&format!("refused 1, {bytes}"), true);
         }
         let read = Job::unpack(&job.bytes);
-        let sizes = &mut self.sizes[form.refusal as usize][read.outputs - 1];
+        let sizes = &mut self.sizes[form.refusal as usize][read.outputs() - 1];
         sizes.primes[read.prime_code] += 1;
-        if form.refusal == 0 || form.refusal > 3 {
+        if matches!(form.refusal, 0 | 4..=6) {
             sizes.rows[read.rows.len()] += 1;
         }
         let points: Vec<u32> = read.rows.iter().map(|row| row.point).collect();
@@ -95,6 +121,7 @@ impl Tally {
     }
 
     fn count_accepted(&mut self, job: &Job, points: &[u32], is_answered: bool) {
+        self.headers.count_sound(job);
         let counts = &mut self.counts;
         counts.add("accepted, with an answer", is_answered);
         counts.add("accepted, without an answer", !is_answered);
@@ -138,7 +165,11 @@ impl Tally {
         for (refusal, of_prime, of_rows) in EACH_FLOORS {
             let least_rows = if refusal == 6 { 2 } else { 1 };
             for (index, sizes) in self.sizes[refusal as usize].iter().enumerate() {
-                let name = format!("{}, outputs: {}, least of", outcome(refusal), index + 1);
+                let name = format!(
+                    "{}, outputs: {}, least of",
+                    outcome(refusal, ACCEPTED),
+                    index + 1
+                );
                 let floor = |share: usize| self.jobs * share / 100_000;
                 lines.push((
                     format!("{name} all p"),
@@ -156,10 +187,11 @@ impl Tally {
 
     /// All counts as text, and whether each reaches its floor.
     pub fn summary(&self) -> (String, bool) {
+        let whole: usize = PLAN.iter().map(|(_, parts)| parts).sum();
         let of_plan = PLAN.into_iter().filter_map(|(kind, parts)| {
-            let name = format!("{}: {kind:?}", outcome(kind.refusal()?));
+            let name = format!("{}: {kind:?}", outcome(kind.refusal()?, ACCEPTED));
             let count = self.counts.of(&name);
-            Some((name, count, self.jobs / 100 * parts))
+            Some((name, count, self.jobs / whole * parts))
         });
         let others = FLOORS.into_iter().map(|(name, floor)| {
             let floor = self.jobs * floor / 10_000;
@@ -171,13 +203,7 @@ impl Tally {
             (numbers.to_string(), self.large.len(), Large::COMBINATIONS),
         ];
         let lines = whole.into_iter().chain(of_plan).chain(others);
-        with_floors(lines.chain(self.size_lines()))
-    }
-}
-
-fn outcome(refusal: u32) -> String {
-    match refusal {
-        0 => "accepted".to_string(),
-        number => format!("refused {number}"),
+        let headers = self.headers.lines(&OTHER_FAULTS);
+        with_floors(lines.chain(self.size_lines()).chain(headers))
     }
 }

@@ -120,7 +120,7 @@ impl Vector {
                     return planted;
                 }
             },
-            Vector::NumeratorsSwapped => solvable(random, |planted| planted.job.outputs > 1),
+            Vector::NumeratorsSwapped => solvable(random, |planted| planted.job.outputs() > 1),
             _ => solvable(random, |_| true),
         }
     }
@@ -148,7 +148,8 @@ impl Vector {
                 *coefficients(offered)[random.between(0, last)] = number;
             }
             Vector::NumeratorsSwapped => {
-                let (count, first) = (offered.numerators.len(), random.below(planted.job.outputs));
+                let count = offered.numerators.len();
+                let first = random.below(count);
                 let second = (first + random.between(1, count - 1)) % count;
                 offered.numerators.swap(first, second);
             }

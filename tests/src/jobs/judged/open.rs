@@ -51,7 +51,7 @@ fn random_vector(random: &mut Random) -> Pair {
     let mut job = loop {
         let wrong = random.one_of(&[WrongRows::None, WrongRows::Exact]);
         let job = header(random, Shape::Any, wrong);
-        if !is_tiny || job.prime() == 7 && job.outputs == 1 && job.rows.len() <= 3 {
+        if !is_tiny || job.prime() == 7 && job.outputs() == 1 && job.rows.len() <= 3 {
             break job;
         }
     };

@@ -2,10 +2,11 @@
 
 use super::right::solvable;
 use super::Pair;
+use crate::jobs::added::Breach;
 use crate::jobs::planted::Planted;
 use crate::jobs::random::Random;
-use crate::jobs::{faulty, Expected};
-use crate::layout::{wrong_rows, Job, MOST_ROWS};
+use crate::jobs::{Expected, GeneratedJob};
+use crate::layout::{wrong_rows, HeaderForm, Job, MOST_ROWS};
 use hanthuvelo::Judgement;
 
 /// The job's answer, with this done to its length.
@@ -18,6 +19,8 @@ pub enum Length {
     Longer,
     /// dg + 1 coefficients of each f.
     NumeratorsToDg,
+    /// df + 1 coefficients of each f, whose own bounds differ.
+    NumeratorsToDf,
     WithoutWord,
 }
 
@@ -30,10 +33,7 @@ pub enum Fit {
 
 impl Length {
     pub fn pair(self, random: &mut Random) -> Pair {
-        let planted = solvable(random, |planted| {
-            let job = &planted.job;
-            self != Length::NumeratorsToDg || job.numerator_bound != job.denominator_bound
-        });
+        let planted = solvable(random, |planted| self.fits(&planted.job));
         let job = &planted.job;
         let mut offered = planted.answer().pack(job);
         let length = offered.len();
@@ -46,9 +46,9 @@ impl Length {
                 let surplus = random.between(2, 300);
                 offered.extend(any_bytes(random, surplus));
             }
-            Length::NumeratorsToDg => {
-                let width = job.denominator_bound + 1;
-                offered.resize(4 + 2 * (width + job.outputs * width), 0);
+            Length::NumeratorsToDg => offered.resize(to_dg(job), 0),
+            Length::NumeratorsToDf => {
+                offered = planted.answer().pack(&job.under(HeaderForm::Short))
             }
             Length::WithoutWord => drop(offered.drain(..4)),
         }
@@ -56,15 +56,31 @@ impl Length {
     }
 }
 
-/// A job that is refused with this number, often with two faults.
-pub fn pair(random: &mut Random, number: u32, fit: Fit) -> Pair {
-    let job = faulty::refused(random, number);
+impl Length {
+    /// Whether the length that is offered for a job is another one than its answer's.
+    fn fits(self, job: &Job) -> bool {
+        match self {
+            Length::NumeratorsToDg => to_dg(job) != job.answer_length(),
+            Length::NumeratorsToDf => !job.has_equal_bounds(),
+            _ => true,
+        }
+    }
+}
+
+/// How many bytes an answer with dg + 1 coefficients of each f has.
+fn to_dg(job: &Job) -> usize {
+    4 + 2 * (1 + job.outputs()) * (job.denominator_bound + 1)
+}
+
+/// A job that is refused, often with two faults, and anything for its answer.
+pub fn pair(random: &mut Random, job: GeneratedJob, fit: Fit) -> Pair {
     let Expected::Refused { number, row } = job.expected else {
         panic!("the job is refused");
     };
     let right = right_length(&job.bytes);
     let offered = any_bytes(random, right);
     let mut pair = Pair::new(job.bytes, offered, Some(Judgement::refused(number, row)));
+    pair.broken = job.broken;
     if fit == Fit::OtherLength {
         pair.change_length(random);
     }
@@ -73,8 +89,8 @@ pub fn pair(random: &mut Random, number: u32, fit: Fit) -> Pair {
 
 /// How long the answer of a job is; bytes that its header lacks count as zeros.
 pub fn right_length(job: &[u8]) -> usize {
-    let mut header = [0; 3];
-    let given = job.len().min(3);
+    let mut header = [0; 7];
+    let given = job.len().min(7);
     header[..given].copy_from_slice(&job[..given]);
     Job::unpack(&header).answer_length()
 }
@@ -122,7 +138,11 @@ pub fn slight_pair(random: &mut Random, number: u32) -> Pair {
     planted.word = wrong_rows(job, &planted.denominator, &planted.numerators);
     let mut bytes = job.pack();
     match number {
-        2 => bytes[2] |= 1,
+        11 => {
+            let breaches = Breach::ALL.into_iter().filter(|breach| breach.fits(job));
+            let breaches: Vec<Breach> = breaches.collect();
+            random.one_of(&breaches).apply(random, &mut bytes);
+        }
         3 if random.once_in(2) => bytes.push(random.byte()),
         3 => drop(bytes.pop()),
         _ => {}
@@ -141,6 +161,7 @@ impl Planted {
         match number {
             5 => numbers(&self.job).any(|(_, number)| number + prime <= 65535),
             6 => self.job.rows.len() < MOST_ROWS,
+            11 => self.job.header == HeaderForm::Longer,
             _ => true,
         }
     }
@@ -161,7 +182,7 @@ fn add_prime(random: &mut Random, job: &mut Job) -> usize {
     let prime = job.prime();
     loop {
         let row = random.below(job.rows.len());
-        let place = random.below(1 + job.outputs);
+        let place = random.below(1 + job.outputs());
         let number = match place {
             0 => &mut job.rows[row].point,
             _ => &mut job.rows[row].values[place - 1],

@@ -71,7 +71,7 @@ fn wrong_row_altered(random: &mut Random) -> Planted {
     let row = random.one_of(&wrong);
     loop {
         let mut job = planted.job.clone();
-        let output = random.below(job.outputs);
+        let output = random.below(job.outputs());
         job.rows[row].values[output] = random.residue(job.prime());
         let word = wrong_rows(&job, &planted.denominator, &planted.numerators);
         if job != planted.job && word == planted.word {

@@ -1,7 +1,8 @@
 //! Counts of a run of pairs, with the floors below which it fails.
 
-use super::{Pair, Verdict, PLAN};
+use super::{Pair, Verdict, OTHER_FAULTS, PLAN};
 use crate::definition::Fault;
+use crate::jobs::header_tally::HeaderTally;
 use crate::jobs::tally::{with_floors, Counts};
 use crate::layout::{has_pole, value_at, Answer, Job, Row};
 use crate::second::polynomial::Polynomial;
@@ -63,6 +64,7 @@ pub struct Tally {
     pairs: usize,
     counts: Counts,
     flipped: BTreeSet<usize>,
+    headers: HeaderTally,
 }
 
 impl Tally {
@@ -72,6 +74,7 @@ impl Tally {
         let verdict = Verdict::of(judgement);
         self.pairs += 1;
         self.flipped.extend(pair.flipped);
+        self.headers.count(&pair.job, pair.broken);
         let counts = &mut self.counts;
         counts.add(&format!("{verdict:?}"), true);
         counts.add(&format!("{verdict:?}: {:?}", pair.kind), true);
@@ -79,8 +82,9 @@ impl Tally {
             return;
         }
         let job = Job::unpack(&pair.job);
+        self.headers.count_sound(&job);
         counts.add(&format!("{verdict:?}, modulo {}", job.prime()), true);
-        counts.add(&format!("{verdict:?}, outputs: {}", job.outputs), true);
+        counts.add(&format!("{verdict:?}, outputs: {}", job.outputs()), true);
         if verdict == Verdict::Yes {
             return self.count_right(&job, &Answer::unpack(&pair.offered, &job));
         }
@@ -132,10 +136,11 @@ impl Tally {
 
     /// All counts as text, and whether each reaches its floor.
     pub fn summary(&self) -> (String, bool) {
+        let whole: usize = PLAN.iter().map(|(_, parts)| parts).sum();
         let of_plan = PLAN.into_iter().filter_map(|(kind, parts)| {
             let name = format!("{:?}: {kind:?}", kind.verdict()?);
             let count = self.counts.of(&name);
-            Some((name, count, self.pairs / 100 * parts))
+            Some((name, count, self.pairs / whole * parts))
         });
         let others = FLOORS.into_iter().chain(RIGHT_FLOORS);
         let others = others.map(|(name, floor)| {
@@ -150,7 +155,8 @@ impl Tally {
                 8 * 254,
             ),
         ];
-        with_floors(whole.into_iter().chain(of_plan).chain(others))
+        let lines = whole.into_iter().chain(of_plan).chain(others);
+        with_floors(lines.chain(self.headers.lines(&OTHER_FAULTS)))
     }
 }
 

@@ -1,15 +1,18 @@
 //! Calls with faults: made to be refused for a given cause, damaged, or random.
 
 use super::{Draft, Spoiled, TrialCall};
-use crate::jobs::faulty::take_rows;
+use crate::jobs::added::{Breach, Broken};
+use crate::jobs::faults::take_rows;
 use crate::jobs::planted::Shape;
 use crate::jobs::random::Random;
+use crate::layout::HeaderForm;
 use crate::second::polynomial::Polynomial;
 
 /// A cause of a refusal, in the order in which they are tested.
 #[derive(Clone, Copy, Debug, PartialEq, Eq, PartialOrd, Ord)]
 pub enum Fault {
     ShortHeader,
+    /// The spare bit 1 with 3 to 6 bytes. Item 1 alone would refuse three of them with 2.
     SpareBit,
     LongHeader,
     CoefficientBytes,
@@ -43,7 +46,7 @@ impl Fault {
     pub fn refusal(self) -> (u32, &'static str) {
         match self {
             Fault::ShortHeader => (1, "1: short header"),
-            Fault::SpareBit => (2, "2: spare bit"),
+            Fault::SpareBit => (1, "1: spare bit, 3 to 6 bytes"),
             Fault::LongHeader => (3, "3: long header"),
             Fault::CoefficientBytes => (3, "3: coefficient bytes"),
             Fault::TooFewRows => (4, "4: too few rows"),
@@ -68,14 +71,7 @@ pub fn faulty(random: &mut Random, first: Fault) -> TrialCall {
     if !later.is_empty() && random.once_in(2) {
         faults.push(later[random.below(later.len())]);
     }
-    let mut draft = draft_for(random, &faults);
-    for &fault in faults.iter().rev() {
-        draft.spoil_by(random, fault);
-    }
-    let mut call = draft.call(random);
-    for &fault in faults.iter().rev() {
-        call.spoil_by(random, fault);
-    }
+    let mut call = with_faults(random, &faults, None);
     let (number, label) = first.refusal();
     call.labels = vec![label];
     if faults.len() > 1 {
@@ -85,15 +81,51 @@ pub fn faulty(random: &mut Random, first: Fault) -> TrialCall {
     call
 }
 
+/// A call with this broken added header.
+pub fn broken(random: &mut Random, broken: Broken) -> TrialCall {
+    let is_other =
+        |fault: &Fault| fault.refusal().0 == broken.other && *fault != Fault::ShortHeader;
+    let others: Vec<Fault> = Fault::ALL.into_iter().filter(is_other).collect();
+    let faults: Vec<Fault> = match others.is_empty() {
+        true => Vec::new(),
+        false => vec![random.one_of(&others)],
+    };
+    let call = with_faults(random, &faults, Some(broken.breach));
+    TrialCall {
+        labels: Vec::new(),
+        expected: Some(broken.refusal()),
+        broken: Some(broken),
+        ..call
+    }
+}
+
+/// A call with these faults, in the order of their tests, and this way to break the added header.
+fn with_faults(random: &mut Random, faults: &[Fault], breach: Option<Breach>) -> TrialCall {
+    let mut draft = draft_for(random, faults, breach);
+    for &fault in faults.iter().rev() {
+        draft.spoil_by(random, fault);
+    }
+    let mut call = draft.call(random);
+    if let Some(breach) = breach {
+        breach.apply(random, &mut call.header);
+    }
+    for &fault in faults.iter().rev() {
+        call.spoil_by(random, fault);
+    }
+    call
+}
+
 /// A sound draft that these faults can be put into.
-fn draft_for(random: &mut Random, faults: &[Fault]) -> Draft {
+fn draft_for(random: &mut Random, faults: &[Fault], breach: Option<Breach>) -> Draft {
     let shape = match faults.contains(&Fault::CommonDivisor) {
         true => Shape::CommonFactor,
         false => Shape::Any,
     };
     loop {
         let mut draft = Draft::draw(random, shape);
-        if draft.job.prime_code == 0 || !faults.contains(&Fault::RowsAbovePrime) {
+        let is_modulo_7 = draft.job.prime_code == 0;
+        let fits = breach.is_none_or(|breach| breach.fits(&draft.job));
+        if fits && (is_modulo_7 || !faults.contains(&Fault::RowsAbovePrime)) {
             draft.spoil(random, Spoiled::Any);
             return draft;
         }
@@ -137,8 +169,14 @@ impl TrialCall {
     /// Puts a fault into the bytes or the area.
     fn spoil_by(&mut self, random: &mut Random, fault: Fault) {
         match fault {
-            Fault::ShortHeader => self.header.truncate(random.below(3)),
-            Fault::SpareBit => self.header[2] |= 1,
+            Fault::ShortHeader => {
+                let whole = HeaderForm::of(&self.header).length();
+                self.header.truncate(random.below(whole));
+            }
+            Fault::SpareBit => {
+                self.header[2] |= 1;
+                self.header.truncate(random.between(3, 6));
+            }
             Fault::LongHeader => {
                 let surplus = random.between(1, 300);
                 self.header.extend(random.bytes(surplus));
@@ -175,8 +213,7 @@ impl TrialCall {
 
     /// The area is one byte short, or empty, or of any length that is too short.
     fn shorten_area(&mut self, random: &mut Random) {
-        let fields = self.fields();
-        let needed = 3 + 2 * fields.row_count * (1 + fields.outputs);
+        let needed = self.fields().job_length();
         self.area.truncate(match random.below(4) {
             0 => 0,
             1 => random.below(needed),
@@ -193,11 +230,15 @@ pub fn damaged_or_random(random: &mut Random) -> TrialCall {
     if random.once_in(2) {
         call.labels = vec!["damaged bytes"];
         for _ in 0..random.between(1, 2) {
-            let part = match random.once_in(2) {
+            let is_header = random.once_in(2);
+            let part = match is_header {
                 true => &mut call.header,
                 false => &mut call.coefficients,
             };
             let place = random.below(part.len());
+            if is_header && place > 2 {
+                call.labels.push("damaged added header");
+            }
             match random.below(8) {
                 0 => part.insert(place, random.byte()),
                 1 if part.len() > 1 => drop(part.remove(place)),
@@ -206,7 +247,7 @@ pub fn damaged_or_random(random: &mut Random) -> TrialCall {
         }
     } else {
         call.labels = vec!["random bytes"];
-        let (header, coefficients) = (random.between(2, 4), random.below(260));
+        let (header, coefficients) = (random.between(2, 8), random.below(260));
         call.header = random.bytes(header);
         call.coefficients = random.bytes(coefficients);
         call.spoiled = random.below(40) as u32;

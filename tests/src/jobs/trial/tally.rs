@@ -1,21 +1,24 @@
 //! Counts of a run of calls, with the floors below which it fails.
 
 use super::fault::Fault;
-use super::{Fields, TrialCall};
+use super::{Fields, TrialCall, OTHER_FAULTS};
+use crate::jobs::header_tally::HeaderTally;
 use crate::jobs::tally::{with_floors, Counts};
+use crate::layout::Job;
 use crate::second::TrialJob;
 use hanthuvelo::Written;
 
 /// Floors out of a thousand calls: of what they were made to be, and of what became of them.
-const FLOORS: [(&str, usize); 36] = [
+const FLOORS: [(&str, usize); 37] = [
     ("exact area", 150),
     ("longer area", 300),
     ("common divisor of g and all f but one", 30),
     ("two faults", 80),
     ("damaged bytes", 5),
+    ("damaged added header", 1),
     ("random bytes", 5),
-    ("refused 1", 15),
-    ("refused 2", 15),
+    ("refused 1", 35),
+    ("refused 11", 35),
     ("refused 3", 35),
     ("refused 4", 15),
     ("refused 5", 15),
@@ -50,12 +53,14 @@ const FLOORS: [(&str, usize); 36] = [
 pub struct Tally {
     calls: usize,
     counts: Counts,
+    headers: HeaderTally,
 }
 
 impl Tally {
     /// Counts a call by what it returned, and by its job if one was written.
     pub fn count(&mut self, call: &TrialCall, written: Written, job: Option<&TrialJob>) {
         self.calls += 1;
+        self.headers.count(&call.header, call.broken);
         for label in &call.labels {
             self.counts.add(label, true);
         }
@@ -73,11 +78,13 @@ impl Tally {
             outputs,
             row_count,
             error_bound,
+            ..
         } = call.fields();
         let ending = if outputs == 1 { "" } else { "s" };
         let wrong = job.wrong_rows().len();
         let spoiled_pole = !job.poles.is_disjoint(&job.spoiled);
         let within = wrong <= error_bound;
+        self.headers.count_sound(&Job::unpack(&job.bytes));
         let counts = &mut self.counts;
         counts.add("written", true);
         counts.add(&format!("written modulo {prime}"), true);
@@ -107,6 +114,7 @@ impl Tally {
         };
         let calls = ("calls".to_string(), self.calls, 50_000);
         let lines = FLOORS.into_iter().chain(causes).map(line);
-        with_floors(std::iter::once(calls).chain(lines))
+        let headers = self.headers.lines(&OTHER_FAULTS);
+        with_floors(std::iter::once(calls).chain(lines).chain(headers))
     }
 }

@@ -3,7 +3,7 @@ use mathlib.Core.Path.{_≡_, refl, ap, _∙_}
 use lib.ListN.{length, length-set}
 use lib.Seq.{paste, paste-zero}
 use Rattle.text.specs.Drafts.{textRoom}
-use Rattle.text.proofs.Puts.{copy-next, copy-all}
+use Rattle.answer.proofs.Copies.{copy-next, copy-all}
 use borrow.Author.Needs.{needs}
 use native.Mathlib.Omega.{arith}
 use Rattle.text.proofs.draft.copy_out.Statement.{statement}
@@ -27,7 +27,7 @@ loop-again c =
     let whole : length (g .t1 .bytes) ≡ textRoom = search needs in (
       omega arith,
       simp length-set (s .loop .inv .1),
-      copy-next (g .t1 .bytes) whole (g .buffer .now) (s .loop .buffer) (s .loop .k) (omega arith) (omega arith) (s .loop .inv .2),
+      copy-next (g .t1 .bytes) (g .buffer .now) (s .loop .buffer) (s .loop .k) (omega arith) (omega arith) (s .loop .inv .2),
     )
 
 same-length : tie.Need-same-length Inv-loop μ-loop
@@ -39,7 +39,7 @@ returns c =
     let g = s .before .args in
     let whole : length (g .t1 .bytes) ≡ textRoom = search needs in
     let all : s .loop .k ≡ g .t1 .count = omega arith in
-    (refl, s .loop .inv .2 ∙ ap (paste (g .buffer .now) 0 (g .t1 .bytes)) all ∙ copy-all (g .t1 .bytes) whole (g .buffer .now) (g .t1 .count) (omega arith))
+    (refl, s .loop .inv .2 ∙ ap (paste (g .buffer .now) 0 (g .t1 .bytes)) all ∙ copy-all (g .t1 .bytes) (g .buffer .now) (g .t1 .count) (omega arith))
 
 pub copy-out-spec : {M : Type 1} → statement M
 copy-out-spec =

@@ -1,7 +1,7 @@
-use Prim.Native.Nat.{_+_, _-_, _*_, _≤_}
+use Prim.Native.Nat.{_+_, _-_, _*_, _≤_, _<_}
 use mathlib.Core.Path.{_≡_, refl, sym, ap, ap₂, _∙_}
 use lib.ListN.{length}
-use Rattle.format.specs.Bounds.{numeratorBoundOf}
+use Rattle.format.specs.Bounds.{numeratorBoundOf, numeratorCount}
 use Rattle.answer.specs.Bytes.{numeratorStart}
 use Rattle.text.specs.Drafts.{textRoom, held, extended}
 use Rattle.text.specs.Lines.{outputLineFrom, outputLines}
@@ -20,19 +20,19 @@ abbrev μ-loop : tie.MeasureT-loop
 μ-loop area b n r₀ start₀ i₀ r start i = n - i
 
 loop-holds : tie.Need-loop-holds Inv-loop μ-loop
-unfolding numeratorStart outputLines
+unfolding numeratorCount outputLines
 loop-holds c =
     let g = c .before .before in
     let whole : length (g .args .draft .bytes) ≡ textRoom = search needs in
-    (omega arith, refl, omega (arith, g .pre .denominator-low), put-nothing (g .args .draft .bytes) whole (g .args .draft .count))
+    (omega arith, omega arith, omega (arith, g .pre .denominator-low), put-nothing (g .args .draft .bytes) whole (g .args .draft .count))
 
 -- the bound of a turn's output
-low : (s : tie.At-loop Inv-loop μ-loop) → numeratorBoundOf (s .before .before .before .args .b) (s .loop .i) ≤ 31
+low : (s : tie.At-loop Inv-loop μ-loop) → s .loop .i < s .before .before .before .args .b .outputs → numeratorBoundOf (s .before .before .before .args .b) (s .loop .i) ≤ 31
 low s = s .before .before .before .pre .numerators-low (s .loop .i)
 
 put-output-requires : tie.Need-put-output-requires Inv-loop μ-loop
 put-output-requires c κs =
-    let bound = low (c .before .before) in
+    let bound = low (c .before .before) (omega arith) in
     let few = c .before .before .before .before .before .pre .few in
     (omega arith, omega arith, omega arith)
 
@@ -44,7 +44,7 @@ loop-again c =
     let draft = g .args .draft in
     let area = g .args .area .now in
     let i = s .loop .i in
-    let small = low s in
+    let small = low s (omega arith) in
     let bound = c .before .numerator-bound .ensures in
     let line = outputLineFrom area i (numeratorStart b i) (numeratorBoundOf b i) in
     let put = c .put-output .ensures ∙ ap₂ (λ start top. extended (s .loop .r) (outputLineFrom area i start top)) (s .loop .inv .1) bound in (
@@ -73,9 +73,9 @@ put-outputs-spec =
     loop-holds
     (λ c κs. search needs)
     put-output-requires
-    (λ c. omega (arith, low (c .before .before .before)))
-    (λ c. omega (arith, low (c .before .before .before)))
-    (λ c. omega (arith, low (c .before .before .before), c .before .before .before .before .before .before .pre .few))
+    (λ c. omega (arith, low (c .before .before .before) (omega arith)))
+    (λ c. omega (arith, low (c .before .before .before) (omega arith)))
+    (λ c. omega (arith, low (c .before .before .before) (omega arith), c .before .before .before .before .before .before .pre .few))
     (λ c. omega arith)
     (λ c. omega arith)
     loop-again

@@ -1,0 +1,148 @@
+-- What the two headers of the same job say is the same, and so are the rows behind them.
+use Prim.Native.Nat.{ℕ, zero, suc, _+_, _-_, _*_, _≤_, _<_}
+use mathlib.Core.Bool.{Bool, true, false, cond, not, _&&_, _||_}
+use mathlib.Core.List.{List}
+use mathlib.Core.Logic.{_⊎_, inl, inr}
+use mathlib.Core.Path.{_≡_, refl, sym, ap, ap₂, fun-ext, _∙_}
+use native.Mathlib.Decide.{ℕ-discrete}
+use native.Mathlib.Omega.{arith}
+use borrow.Author.Tests.{lt-ltb, le-ltb, le-leb, lt-leb, eq-eqb, ne-eqb}
+use lib.Dec.{ltb, leb, eqb}
+use lib.ListN.{length, getD, length-drop}
+use lib.Seq.{getD-drop}
+use Rattle.lists.proofs.Order.{lt-or-ge}
+use Rattle.lists.proofs.Tabulated.{tabulate-cong}
+use Rattle.field.specs.Primes.{modulusOf, primeOfCode}
+use Rattle.format.specs.declared.Reason.the-variants.{OutOfRange, RepeatedPoint, AreaTooShort}
+use Rattle.format.specs.declared.Outcome.{Outcome}
+use Rattle.format.specs.declared.Outcome.the-variants.{Accepted}
+use Rattle.format.specs.Bounds.{numeratorBoundOf, largestBound, answerLengthOf}
+use Rattle.format.specs.Numbers.{numberFrom}
+use Rattle.format.specs.declared.Bounds.{Bounds}
+use Rattle.format.proofs.Sizes.{largest-above, largest-most}
+use Rattle.cursor.specs.Bits.{bitOf, fieldOf}
+use Rattle.cursor.proofs.Fields.{field-cong}
+use Rattle.header.specs.Header.{outputsOf, dfOf, spareBitOf, headerLengthOf, numeratorBoundsOf, flagsOf, boundsOf, headerOf, jobLengthOf, rowsNeededOf}
+use Rattle.header.proofs.Fields.{narrow, bound-at}
+use Rattle.header_rules.specs.Rules.{tooShort, boundsAbsent, addedHeaderBroken}
+use Rattle.header_rules.proofs.Rules.{short-unbroken}
+use Rattle.row_search.specs.Search.{isFound, ifHolds, firstBelow, anyBelow}
+use Rattle.row_search.proofs.FirstBelow.{none-below}
+use Rattle.rows.specs.Rows.{numberAt}
+use Rattle.job.specs.Refusals.{byteCountDiffers, tooFewRows, refuse, outcomeOfRows, outcomeOf}
+use Rattle.either_header.specs.EitherHeader.{SameJob}
+
+eqb-plus : (a b k : ℕ) → eqb (a + k) (b + k) ≡ eqb a b
+eqb-plus a b k = by (ℕ-discrete a b)
+  where
+    by : Dec (a ≡ b) → eqb (a + k) (b + k) ≡ eqb a b
+    by (yes e) = eq-eqb _ _ (ap (λ (x : ℕ). x + k) e) ∙ sym (eq-eqb _ _ e)
+    by (no e) = ne-eqb (a + k) (b + k) (λ (h : a + k ≡ b + k). e (omega arith)) ∙ sym (ne-eqb a b e)
+
+-- tests 5 to 7, from the bounds and the numbers of the rows
+abbrev rowTests : Bounds → (ℕ → ℕ → ℕ) → ℕ → Outcome
+rowTests b n room =
+    refuse OutOfRange
+    (firstBelow (b .rows) (λ r. leb (modulusOf (b .prime)) (n r 0) || anyBelow (b .outputs) (λ i. leb (modulusOf (b .prime)) (n r (1 + i)))))
+    (refuse RepeatedPoint (firstBelow (b .rows) (λ r. anyBelow r (λ q. eqb (n q 0) (n r 0))))
+    (refuse AreaTooShort (ifHolds (ltb room (answerLengthOf b)) 0) Accepted))
+
+module _ (s s' : List ℕ) (J : SameJob s s') where
+  field-same : (at bits : ℕ) → at + bits ≤ 23 → fieldOf s' at bits ≡ fieldOf s at bits
+  field-same at bits inside = field-cong s' s at at bits (λ k l. J .fields (at + k) (omega arith))
+
+  outputs-same : outputsOf s' ≡ outputsOf s
+  unfolding outputsOf
+  outputs-same = ap (λ (x : ℕ). x + 1) (field-same 2 2 (omega arith))
+
+  df-same : dfOf s' ≡ dfOf s
+  unfolding dfOf
+  df-same = field-same 9 5 (omega arith)
+
+  numerators-same : numeratorBoundsOf s' ≡ numeratorBoundsOf s
+  unfolding numeratorBoundsOf
+  numerators-same = tabulate-cong 4 _ _ (λ i l. rw (J .longer .1, J .short .1) (J .bounds i l))
+
+  pub bounds-same : boundsOf s' ≡ boundsOf s
+  unfolding boundsOf
+  bounds-same = λ i. record {
+    prime = primeOfCode (field-same 0 2 (omega arith) i);
+    outputs = outputs-same i;
+    rows = field-same 4 5 (omega arith) i;
+    numerators = numerators-same i;
+    dg = field-same 14 5 (omega arith) i;
+    errors = field-same 19 4 (omega arith) i;
+  }
+
+  -- the longer header breaks no rule
+  equal-bound : (i : ℕ) → i < 4 → numeratorBoundOf (boundsOf s) i ≡ cond (ltb i (outputsOf s)) (dfOf s) 0
+  equal-bound i l = bound-at s i l ∙ rw (J .short .1) refl
+
+  outputs-are : boundsOf s .outputs ≡ outputsOf s
+  unfolding boundsOf
+  outputs-are = refl
+
+  largest-equal : largestBound (boundsOf s) (boundsOf s .outputs) ≡ dfOf s
+  largest-equal =
+      let n = narrow s in
+      let each : (i : ℕ) → i < boundsOf s .outputs → numeratorBoundOf (boundsOf s) i ≡ dfOf s =
+      λ i l. equal-bound i (omega arith) ∙ rw (lt-ltb i (outputsOf s) (omega (arith, outputs-are))) refl in
+      let most = largest-most (boundsOf s) (dfOf s) (boundsOf s .outputs) (λ i l. (let e = each i l in omega arith)) in
+      let least = largest-above (boundsOf s) (boundsOf s .outputs) 0 (omega arith) in
+      omega (arith, each 0 (omega arith))
+
+  none-absent : boundsAbsent (boundsOf s) ≡ false
+  none-absent = ap isFound (none-below _ 4 (λ i l. by i l (lt-or-ge i (boundsOf s .outputs))))
+    where
+      by : (i : ℕ) → i < 4 → (i < boundsOf s .outputs) ⊎ (boundsOf s .outputs ≤ i) → (leb (boundsOf s .outputs) i && not (eqb (numeratorBoundOf (boundsOf s) i) 0)) ≡ false
+      by i l (inl exists) = simp (lt-leb (boundsOf s .outputs) i exists)
+      by i l (inr past) =
+          let zero : numeratorBoundOf (boundsOf s) i ≡ 0 = equal-bound i l ∙ rw (le-ltb i (outputsOf s) (omega (arith, outputs-are))) refl in
+          simp (le-leb (boundsOf s .outputs) i past, zero)
+
+  no-flags : flagsOf s' ≡ 0
+  unfolding flagsOf
+  no-flags = rw (J .longer .1) (J .flags)
+
+  unbroken : addedHeaderBroken s' ≡ false
+  unbroken = rw (J .longer .1, no-flags, bounds-same, none-absent, df-same, eq-eqb _ _ (sym largest-equal)) refl
+
+  -- 4 bytes more
+  pub length-same : length s' ≡ length s + 4
+  length-same =
+      let e = sym (length-drop 7 s') ∙ ap length (J .rows) ∙ length-drop 3 s in
+      omega (arith, J .short .0, J .longer .0)
+
+  -- the rows' bytes, and so their numbers
+  byte-same : (k : ℕ) → getD s' (7 + k) 0 ≡ getD s (3 + k) 0
+  byte-same k = sym (getD-drop 7 s' k 0) ∙ ap (λ (l : List ℕ). getD l k 0) (J .rows) ∙ getD-drop 3 s k 0
+
+  pub numbers-same : numberAt s' ≡ numberAt s
+  unfolding numberAt
+  numbers-same =
+      fun-ext (λ r. fun-ext (λ c.
+      let k = 2 * (r * (1 + boundsOf s .outputs) + c) in
+      let next : 7 + k + 1 ≡ 7 + (k + 1) = omega arith in
+      let next' : 3 + k + 1 ≡ 3 + (k + 1) = omega arith in
+      rw (bounds-same, J .longer .1, J .short .1, next, next') (ap₂ (λ x y. x * 256 + y) (byte-same k) (byte-same (k + 1)))))
+
+  -- so every test says the same
+  total-same : jobLengthOf (headerOf s') ≡ jobLengthOf (headerOf s) + 4
+  total-same = rw (bounds-same, J .longer .1, J .short .1) (omega arith)
+
+  count-same : byteCountDiffers s' ≡ byteCountDiffers s
+  count-same = rw (length-same, total-same) (ap not (eqb-plus (length s) (jobLengthOf (headerOf s)) 4))
+
+  few-same : tooFewRows s' ≡ tooFewRows s
+  few-same = rw (bounds-same, df-same) refl
+
+  rows-same : (room : ℕ) → outcomeOfRows s' room ≡ outcomeOfRows s room
+  unfolding outcomeOfRows
+  rows-same room = ap₂ (λ (b : Bounds) (n : ℕ → ℕ → ℕ). rowTests b n room) bounds-same numbers-same
+
+  pub outcome-same : (room : ℕ) → outcomeOf s' room ≡ outcomeOf s room
+  unfolding outcomeOf
+  outcome-same room =
+      let long-enough = le-ltb (length s) (headerLengthOf s) (rw (J .short .1) (J .short .0)) in
+      let long-enough' = le-ltb (length s') (headerLengthOf s') (rw (J .longer .1) (J .longer .0)) in
+      rw (long-enough, long-enough', unbroken, short-unbroken s (J .short .1), count-same, few-same, rows-same room) refl

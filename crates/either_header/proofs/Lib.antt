@@ -1,0 +1,4 @@
+pub mod Headers
+pub mod Alike
+mod Example
+pub mod ShortHeader

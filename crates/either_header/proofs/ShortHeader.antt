@@ -1,0 +1,92 @@
+-- A field of a header is a quotient of its bytes as one number, so a job with the spare bit 0 is read as paper 01 has it.
+use Prim.Native.Nat.{ℕ, zero, suc, _+_, _-_, _*_, _/_, _%_, _^_, _≤_, _<_}
+use mathlib.Core.Bool.{Bool, cond}
+use mathlib.Core.List.{List}
+use mathlib.Core.Logic.{_⊎_, inl, inr}
+use mathlib.Core.Path.{_≡_, refl, sym, ap, _∙_}
+use native.Mathlib.Omega.{arith}
+use lib.Dec.{ltb, eqb}
+use lib.ListN.{getD}
+use Rattle.lists.proofs.Order.{lt-or-ge}
+use Rattle.lists.proofs.Tabulated.{tabulate-cong}
+use Rattle.field.specs.Primes.{primeOfCode}
+use Rattle.format.specs.Numbers.{numberFrom}
+use Rattle.cursor.specs.Bits.{bitOf, fieldOf}
+use Rattle.cursor.proofs.Fields.{first-bit, second-bit, field-of-number}
+use Rattle.header.specs.Header.{outputsOf, dfOf, spareBitOf, numeratorBoundsOf, boundsOf}
+use Rattle.header_rules.proofs.Rules.{short-unbroken}
+use Rattle.row_word.specs.Words.{joinedBytes}
+use Rattle.rows.specs.Rows.{numberAt}
+use Rattle.job.specs.Refusals.{outcomeOfRows, outcomeOf}
+use Rattle.either_header.specs.ShortHeader.{headerNumber, shortOutputs, shortDf, shortBounds, shortTests, ShortHeader}
+
+module _ (s : List ℕ) (low : (k : ℕ) → getD s k 0 < 256) where
+  -- a bit of the first m bytes as one number
+  bit-joined : (m k : ℕ) → k < 8 * m → bitOf s k ≡ joinedBytes s 0 m / 2 ^ (8 * m - (k + 1)) % 2
+  unfolding joinedBytes
+  bit-joined zero k l = absurd (omega arith)
+  bit-joined (suc m) k l = by (bit-joined m k) (lt-or-ge k (8 * m))
+    where
+      by : (k < 8 * m → bitOf s k ≡ joinedBytes s 0 m / 2 ^ (8 * m - (k + 1)) % 2) → (k < 8 * m) ⊎ (8 * m ≤ k)
+          → bitOf s k ≡ (joinedBytes s 0 m * 256 + getD s (0 + m) 0) / 2 ^ (8 * suc m - (k + 1)) % 2
+      by earlier (inl before) =
+          let shift : 8 * suc m - (k + 1) ≡ 8 + (8 * m - (k + 1)) = omega arith in
+          rw shift (earlier before ∙ first-bit (joinedBytes s 0 m) (getD s (0 + m) 0) (8 * m - (k + 1)) (low (0 + m)))
+      by earlier (inr last) =
+          let byte : k / 8 ≡ 0 + m = omega arith in
+          let place : 7 - k % 8 ≡ 8 * suc m - (k + 1) = omega arith in
+          rw (byte, place) (second-bit (joinedBytes s 0 m) (getD s (0 + m) 0) (8 * suc m - (k + 1)) (omega arith))
+
+  -- a field within them
+  pub field-joined : (m at bits : ℕ) → at + bits ≤ 8 * m → fieldOf s at bits ≡ joinedBytes s 0 m / 2 ^ (8 * m - (at + bits)) % 2 ^ bits
+  field-joined m at bits inside =
+      let behind : 8 * m - at - bits ≡ 8 * m - (at + bits) = omega arith in
+      field-of-number s at (joinedBytes s 0 m) (8 * m - at) bits (omega arith)
+      (λ k l. (let place : 8 * m - (at + k + 1) ≡ 8 * m - at - (k + 1) = omega arith in
+      bit-joined m (at + k) (omega arith) ∙ ap (λ (x : ℕ). joinedBytes s 0 m / 2 ^ x % 2) place))
+      ∙ ap (λ (x : ℕ). joinedBytes s 0 m / 2 ^ x % 2 ^ bits) behind
+
+  three : joinedBytes s 0 3 ≡ headerNumber s
+  unfolding joinedBytes
+  three = omega arith
+
+  field-short : (at bits : ℕ) → at + bits ≤ 24 → fieldOf s at bits ≡ headerNumber s / 2 ^ (24 - (at + bits)) % 2 ^ bits
+  field-short at bits inside = field-joined 3 at bits inside ∙ ap (λ (x : ℕ). x / 2 ^ (24 - (at + bits)) % 2 ^ bits) three
+
+  outputs-short : outputsOf s ≡ shortOutputs s
+  unfolding outputsOf
+  outputs-short = ap (λ (x : ℕ). x + 1) (field-short 2 2 (omega arith))
+
+  df-short : dfOf s ≡ shortDf s
+  unfolding dfOf
+  df-short = field-short 9 5 (omega arith)
+
+  module _ (spare : spareBitOf s ≡ 0) where
+    numerators-short : numeratorBoundsOf s ≡ shortBounds s .numerators
+    unfolding numeratorBoundsOf
+    numerators-short = tabulate-cong 4 _ _ (λ i l. rw (spare, outputs-short, df-short) refl)
+
+    bounds-short : boundsOf s ≡ shortBounds s
+    unfolding boundsOf
+    bounds-short = λ i. record {
+      prime = primeOfCode (field-short 0 2 (omega arith) i);
+      outputs = outputs-short i;
+      rows = field-short 4 5 (omega arith) i;
+      numerators = numerators-short i;
+      dg = field-short 14 5 (omega arith) i;
+      errors = field-short 19 4 (omega arith) i;
+    }
+
+    numbers-short : (r c : ℕ) → numberAt s r c ≡ numberFrom s (3 + 2 * (r * (1 + shortOutputs s) + c))
+    unfolding numberAt
+    numbers-short r c = rw (spare, bounds-short) refl
+
+    tests-short : (area : ℕ) → outcomeOf s area ≡ shortTests s (shortBounds s) (outcomeOfRows s area)
+    unfolding outcomeOf
+    tests-short area = rw (short-unbroken s spare, spare, bounds-short, df-short) refl
+
+  pub short-header : headerNumber s % 2 ≡ 0 → ShortHeader s
+  unfolding spareBitOf
+  short-header even =
+      let spare : spareBitOf s ≡ 0 = omega (arith, field-short 23 1 (omega arith)) in
+      record { bounds = bounds-short spare; numbers = numbers-short spare; tests = tests-short spare }

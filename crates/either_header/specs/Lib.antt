@@ -1,0 +1,2 @@
+pub mod EitherHeader
+pub mod ShortHeader

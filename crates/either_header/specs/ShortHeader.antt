@@ -1,0 +1,53 @@
+-- Paper 01's header by itself, where "one spare bit that is 0" ends it: its "24 bits" as one number, most significant bit first, and what a job with
+-- that header says by it.
+use mathlib.Core.Path.{_≡_}
+use mathlib.Core.Bool.{Bool, cond, not}
+use mathlib.Core.List.{List}
+use Prim.Native.Nat.{ℕ, _+_, _*_, _/_, _%_, _^_}
+use lib.Dec.{ltb, eqb}
+use lib.ListN.{length, getD}
+use Rattle.lists.specs.Tabulated.{tabulate}
+use Rattle.field.specs.Primes.{primeOfCode}
+use Rattle.format.specs.declared.Bounds.{Bounds}
+use Rattle.format.specs.declared.Reason.the-variants.{TooShort, ByteCount, TooFewRows}
+use Rattle.format.specs.declared.Outcome.{Outcome}
+use Rattle.format.specs.Numbers.{numberFrom}
+use Rattle.row_search.specs.Search.{ifHolds}
+use Rattle.header.specs.Header.{boundsOf}
+use Rattle.rows.specs.Rows.{numberAt}
+use Rattle.job.specs.Refusals.{refuse, outcomeOfRows, outcomeOf}
+
+abbrev pub headerNumber : List ℕ → ℕ
+headerNumber s = getD s 0 0 * 65536 + getD s 1 0 * 256 + getD s 2 0
+
+-- "prime code 2, n − 1 in 2, L in 5, df in 5, dg in 5, E in 4": n and df
+abbrev pub shortOutputs : List ℕ → ℕ
+shortOutputs s = headerNumber s / 2 ^ 20 % 4 + 1
+
+abbrev pub shortDf : List ℕ → ℕ
+shortDf s = headerNumber s / 2 ^ 10 % 32
+
+-- "df bounds the degree of every fi"
+abbrev pub shortBounds : List ℕ → Bounds
+shortBounds s =
+    record {
+      prime = primeOfCode (headerNumber s / 2 ^ 22 % 4);
+      outputs = shortOutputs s;
+      rows = headerNumber s / 2 ^ 15 % 32;
+      numerators = tabulate 4 (λ i. cond (ltb i (shortOutputs s)) (shortDf s) 0);
+      dg = headerNumber s / 2 ^ 5 % 32;
+      errors = headerNumber s / 2 % 16;
+    }
+
+-- tests 1, 3 and 4 of paper 01's table, and then what the later ones say
+abbrev pub shortTests : List ℕ → (b : Bounds) → Outcome → Outcome
+shortTests s b later =
+    refuse TooShort (ifHolds (ltb (length s) 3) 0)
+    (refuse ByteCount (ifHolds (not (eqb (length s) (3 + 2 * b .rows * (1 + b .outputs)))) 0)
+    (refuse TooFewRows (ifHolds (ltb (b .rows) (shortDf s + b .dg + 2 * b .errors + 1)) 0) later))
+
+-- a job is read by these alone, as paper 01 has it
+pub record ShortHeader (s : List ℕ) : Type 0 where
+  pub bounds : boundsOf s ≡ shortBounds s
+  pub numbers : (r c : ℕ) → numberAt s r c ≡ numberFrom s (3 + 2 * (r * (1 + shortOutputs s) + c))
+  pub tests : (area : ℕ) → outcomeOf s area ≡ shortTests s (shortBounds s) (outcomeOfRows s area)
