@@ -29,6 +29,13 @@ extern "C" {
 /* The most bytes that an answer can have; an area of this length is never refused as too short. */
 #define HANTHUVELO_ANSWER_MAX 254
 
+/* The first of the twelve flag bits that end a longer header, in the last two of its bytes: rows can be marked. */
+#define HANTHUVELO_MARKS 0x800
+
+/* What every value is of a row that reports a pole, and of a silent row, under a header with that flag. */
+#define HANTHUVELO_POLE 65535
+#define HANTHUVELO_SILENT 65534
+
 /*
  * A job. Its numbers are packed with the most significant bit first. It begins with a header, short or longer:
  *
@@ -48,43 +55,50 @@ extern "C" {
  *   5     d2, that of f2; 0 if n is 1
  *   5     d3, that of f3; 0 if n is 2 or less
  *   5     d4, that of f4; 0 if n is 3 or less
- *   12    flag bits, all 0
+ *   12    flag bits: the first is HANTHUVELO_MARKS, all others are 0
  *
  * df is the largest of d1 .. dn. With the short header d1 .. dn are df, here and below; a job with the longer header and
  * equal bounds has the same answer, byte for byte.
  *
  * L rows follow, each a point and n values, 16 bits a number: 3 + 2 L (1 + n) bytes in all with the short header,
- * 7 + 2 L (1 + n) with the longer one.
+ * 7 + 2 L (1 + n) with the longer one. Points are below p and differ, and values are below p.
+ *
+ * Marked rows. With the flag HANTHUVELO_MARKS, a row whose values are all HANTHUVELO_POLE reports a pole at its point, and
+ * one whose values are all HANTHUVELO_SILENT is silent. Every row that is not silent speaks. Without the flag these two are
+ * numbers of p or more.
  *
  * An answer. A 32-bit word comes first: row r, counted from 0, has the bit r places below the top, and a 1 says
  * that the row is wrong. Then dg + 1 coefficients of g, d1 + 1 of f1, and so on up to dn + 1 of fn, each from the constant
  * term upward, 16 bits a number, most significant byte first: 4 + 2 ((dg + 1) + (d1 + 1) + .. + (dn + 1)) bytes in all.
- * g has leading coefficient 1, and no polynomial of positive degree divides g and every f. A row is right if
- * fi(x) = g(x) yi modulo p for every i.
+ * g has leading coefficient 1, and no polynomial of positive degree divides g and every f. A row with values is right if
+ * fi(x) = g(x) yi modulo p for every i, and one that reports a pole if g(x) = 0 modulo p; else it is wrong. A silent row is
+ * neither, and its bit is 0.
  */
 
 /*
- * The refusals; the first that applies is returned. A recovery tests 1, 11, 3, 4, 5, 6, 7 and 8 in this order, a check
- * 1, 11, 3, 4, 5 and 6, a trial 1, 11, 3, 4, 9, 5, 10 and 7, as said at hanthuvelo_trial, a judgement 1, 11, 3, 4, 5, 6 and
- * then 3 again, as said at hanthuvelo_judge.
+ * The refusals; the first that applies is returned. A recovery tests 1, 11, 3, 4, 5, 12, 6, 7 and 8 in this order, a check
+ * 1, 11, 3, 4, 5, 12 and 6, a trial 1, 11, 3, 4, 9, 5, 10 and 7, as said at hanthuvelo_trial, a judgement what a check tests
+ * and then 3 again, as said at hanthuvelo_judge.
  */
 enum {
     HANTHUVELO_RECOVERED = 0,      /* not refused: the area begins with the answer */
-    HANTHUVELO_ACCEPTED = 0,       /* of a check: none of 1, 11, 3, 4, 5 and 6 applies */
+    HANTHUVELO_ACCEPTED = 0,       /* of a check: none of 1, 11, 3, 4, 5, 12 and 6 applies */
     HANTHUVELO_WRITTEN = 0,        /* of a trial: the area begins with the job */
     HANTHUVELO_JUDGED = 0,         /* of a judgement: the offered answer is judged */
     HANTHUVELO_TOO_SHORT = 1,      /* the job has fewer than 3 bytes, or fewer than 7 and the spare bit is 1 */
     HANTHUVELO_SPARE_BIT = 2,      /* the header's last bit is 1; no longer given for jobs, trials and offered answers */
     HANTHUVELO_BYTE_COUNT = 3,     /* the job has not the number of bytes that its header fixes */
     HANTHUVELO_TOO_FEW_ROWS = 4,   /* L is below df + dg + 2 E + 1 */
-    HANTHUVELO_OUT_OF_RANGE = 5,   /* a point or a value is p or more; `row` is the first such row */
+    HANTHUVELO_OUT_OF_RANGE = 5,   /* a point is p or more, or a value of a row that is not marked; `row` is the first such
+                                      row */
     HANTHUVELO_REPEATED_POINT = 6, /* a point stands in an earlier row; `row` is the first such later row */
     HANTHUVELO_AREA_TOO_SHORT = 7, /* the area is shorter than the answer */
     HANTHUVELO_NO_ANSWER = 8,      /* no reduced fractions within d1 .. dn and dg are wrong at E rows or fewer */
     HANTHUVELO_TOO_MANY_ROWS = 9,  /* of a trial alone: L is above p, or more rows are to be spoiled than L */
     HANTHUVELO_NOT_REDUCED = 10,   /* of a trial alone: the fractions are not reduced */
-    HANTHUVELO_ADDED_HEADER = 11   /* a longer header has a flag bit that is 1, a bound other than 0 for an output that
-                                      does not exist, or a df that is not the largest bound */
+    HANTHUVELO_ADDED_HEADER = 11,  /* a longer header has a flag bit behind the first that is 1, a bound other than 0 for an
+                                      output that does not exist, or a df that is not the largest bound */
+    HANTHUVELO_TOO_FEW_SPEAKING = 12 /* fewer than df + dg + 2 E + 1 rows speak */
 };
 
 /* What a recovery returns. */
@@ -114,12 +128,12 @@ struct hanthuvelo_report hanthuvelo_recover(const uint8_t *job, size_t job_lengt
 
 /* What a check of a job's form returns. */
 struct hanthuvelo_refusal {
-    uint32_t refusal; /* 0 if the job is accepted, else the number of the refusal: 1, 11, 3, 4, 5 or 6 */
+    uint32_t refusal; /* 0 if the job is accepted, else the number of the refusal: 1, 11, 3, 4, 5, 12 or 6 */
     uint32_t row;     /* the row that refusal 5 or 6 speaks of, counted from 0; else 0 */
 };
 
 /*
- * Checks the form of the job of job_length bytes at `job`: returns the first of the refusals 1, 11, 3, 4, 5 and 6 that
+ * Checks the form of the job of job_length bytes at `job`: returns the first of the refusals 1, 11, 3, 4, 5, 12 and 6 that
  * applies, tested in this order, with the row that 5 or 6 speaks of, and refusal 0 and row 0 if none does.
  *
  * It recovers nothing and has no area. A job that is refused here is refused by a recovery in the same way, whatever its
@@ -144,10 +158,11 @@ struct hanthuvelo_written {
  * word `start`, and the number `spoiled` of rows to be spoiled.
  *
  * The job begins with the header. Row r has the point r; where g(r) is 0 its values are zeros, else those below p with
- * fi(r) = g(r) yi modulo p. Then `spoiled` different rows are spoiled, each by two draws. A draw is a new word:
- * 1664525 times the last one, which is `start` before the first draw, plus 1013904223, modulo 2^32. The top 16 bits of one
- * draw modulo L choose the row, or the next one that is not spoiled yet, row 0 following the last. The top 16 bits of the
- * next draw modulo p - 1, plus 1, are added to the row's first value modulo p.
+ * fi(r) = g(r) yi modulo p. No row is marked, also under a header with the flag for that. Then `spoiled` different rows are
+ * spoiled, each by two draws. A draw is a new word: 1664525 times the last one, which is `start` before the first draw, plus
+ * 1013904223, modulo 2^32. The top 16 bits of one draw modulo L choose the row, or the next one that is not spoiled yet,
+ * row 0 following the last. The top 16 bits of the next draw modulo p - 1, plus 1, are added to the row's first value
+ * modulo p.
  *
  * Where the rows that are spoiled or have g(r) = 0 are E at most, a recovery of the job into an area that is long enough
  * gives back g and f1 .. fn, and exactly those rows.
@@ -194,7 +209,7 @@ struct hanthuvelo_reciprocal hanthuvelo_reciprocal(uint32_t prime_code, uint32_t
 
 /* What a call that judges an offered answer returns. */
 struct hanthuvelo_judgement {
-    uint32_t refusal; /* 0 if the answer is judged, else the number of the refusal: 1, 11, 3, 4, 5 or 6 */
+    uint32_t refusal; /* 0 if the answer is judged, else the number of the refusal: 1, 11, 3, 4, 5, 12 or 6 */
     uint32_t row;     /* the row of the job that refusal 5 or 6 speaks of, counted from 0; else 0 */
     uint32_t yes;     /* 1 if the offered answer is the job's, else 0 */
 };
@@ -205,10 +220,10 @@ struct hanthuvelo_judgement {
  * every one of them, the word included. It does not recover the job, and takes less time.
  *
  * A coefficient of p or more is a no; so are a leading coefficient of g other than 1, a polynomial of positive degree
- * that divides g and every f, a word that marks other rows than the wrong ones, or a row that does not exist, and more
- * wrong rows than E.
+ * that divides g and every f, a word that marks other rows than the wrong ones, a silent one for example, or a row that does
+ * not exist, and more wrong rows than E.
  *
- * Refused, in this order: 1, 11, 3, 4, 5, 6 as a recovery of the job is, and then 3 also if the offered answer has not
+ * Refused, in this order: 1, 11, 3, 4, 5, 12, 6 as a recovery of the job is, and then 3 also if the offered answer has not
  * 4 + 2 ((dg + 1) + (d1 + 1) + .. + (dn + 1)) bytes.
  *
  * Any bytes make a job, and any bytes an offered answer. Both are only read, and may overlap. The caller sees to it that

@@ -85,6 +85,17 @@ impl Bounds {
         }
     }
 
+    /// The same with a bound for each f, as the longer header has it.
+    pub(crate) fn with_longer_header(self) -> Bounds {
+        let NumeratorBounds::Same(bound) = self.df else {
+            return self;
+        };
+        let mut each = [0; 4];
+        each[..self.outputs].fill(bound);
+        let df = NumeratorBounds::Each(each);
+        Bounds { df, ..self }
+    }
+
     /// How many bytes a row has: the point and the values, 16 bits each.
     pub(crate) fn row_length(&self) -> usize {
         2 * (1 + self.outputs)

@@ -1,6 +1,6 @@
 //! The boundary to the proved library: its functions on byte slices and numbers.
 
-use crate::{Answer, Job, Prime, Refusal, Trial, LONGEST_ANSWER, LONGEST_JOB};
+use crate::{Answer, Header, Job, Prime, Refusal, Trial, LONGEST_ANSWER, LONGEST_JOB};
 
 #[allow(unsafe_code)]
 mod linked {
@@ -100,7 +100,7 @@ mod linked {
         unsafe { hanthuvelo_judge(job.as_ptr(), job.len(), answer.as_ptr(), answer.len()) }
     }
 
-    /// Checks the form of a job: the first of the refusals 1, 11, 3, 4, 5 and 6 that applies, if one does. Nothing is
+    /// Checks the form of a job: the first of the refusals 1, 11, 3, 4, 5, 12 and 6 that applies, if one does. Nothing is
     /// recovered.
     ///
     /// Any bytes make a job. What is refused here is refused by a recovery in the same way. What is accepted is recovered, or
@@ -143,8 +143,8 @@ impl Job {
         }
     }
 
-    /// Whether this job's form is as it should be, or which refusal of the form it meets first: 4, 5 or 6, as the bytes of a
-    /// `Job` are whole and their header breaks no rule.
+    /// Whether this job's form is as it should be, or which refusal of the form it meets first: 4, 5, 12 or 6, as the bytes of
+    /// a `Job` are whole and their header breaks no rule.
     ///
     /// The job is not recovered for that: an accepted one may still have no answer.
     ///
@@ -207,7 +207,11 @@ impl Trial {
         let written = trial(&header, &coefficients, self.start, self.spoiled, &mut area);
         match Refusal::of_trial(written, &header, &coefficients, self.spoiled) {
             Some(refusal) => Err(refusal),
-            None => Ok(Job::read(&area[..written.written as usize], *self.bounds())),
+            None => {
+                let (bounds, rows) = (*self.bounds(), self.rows());
+                let header = Header::new(bounds, rows, self.allows_marks());
+                Ok(Job::read(&area[..written.written as usize], header))
+            }
         }
     }
 }

@@ -15,7 +15,8 @@ pub struct Header {
     pub rows: usize,
     /// df as the first three bytes have it. In a longer header that is not refused it is the largest bound of an f.
     pub df: usize,
-    /// The 12 flag bits at a longer header's end, 0 in one that is not refused, and 0 in a short one.
+    /// The 12 flag bits at a longer header's end, of which the first alone can be 1 in one that is not refused; 0 in a short
+    /// one.
     pub flags: u16,
 }
 
@@ -24,6 +25,8 @@ impl Header {
     pub const SHORT: usize = 3;
     /// How many bytes a longer header has, a bound for each output among them.
     pub const LONGER: usize = 7;
+    /// The first of the 12 flag bits, by which rows can be marked.
+    pub const MARKS: u16 = 0x800;
 
     /// How many bytes the header has that `bytes` begin with. Where they are too few to say that, it has at least
     /// [`SHORT`](Header::SHORT).
@@ -68,14 +71,20 @@ impl Header {
         })
     }
 
-    /// The header of a job with these bounds and so many rows, which breaks no rule.
-    pub(crate) fn new(bounds: Bounds, rows: usize) -> Header {
+    /// The header of a job with these bounds and so many rows, which breaks no rule. Where rows can be marked, each f has a
+    /// bound of its own.
+    pub(crate) fn new(bounds: Bounds, rows: usize, allows_marks: bool) -> Header {
         Header {
             bounds,
             rows,
             df: bounds.df.largest(),
-            flags: 0,
+            flags: if allows_marks { Header::MARKS } else { 0 },
         }
+    }
+
+    /// Whether rows can be marked: the first flag bit is 1.
+    pub fn allows_marks(&self) -> bool {
+        self.flags & Header::MARKS != 0
     }
 
     /// The header's bytes; every field is within its range.
@@ -108,13 +117,13 @@ impl Header {
         self.length() + self.rows * self.bounds.row_length()
     }
 
-    /// The rule that a longer header breaks, if it does: the first of a flag bit, the bound of an output that does not
-    /// exist, and df.
+    /// The rule that a longer header breaks, if it does: the first of a flag bit behind the first one, the bound of an output
+    /// that does not exist, and df.
     pub fn broken_rule(&self) -> Option<BrokenRule> {
         let NumeratorBounds::Each(bounds) = self.bounds.df else {
             return None;
         };
-        if self.flags != 0 {
+        if self.flags & !Header::MARKS != 0 {
             return Some(BrokenRule::FlagBits(self.flags));
         }
         let outputs = self.bounds.outputs;
@@ -133,7 +142,7 @@ impl Header {
 /// A rule that the four bytes which a longer header adds break. Shown as `df is 4, the largest bound is 3`.
 #[derive(Clone, Copy, Debug, PartialEq, Eq)]
 pub enum BrokenRule {
-    /// Of these 12 flag bits one is 1 at least.
+    /// Of these 12 flag bits one behind the first is 1 at least.
     FlagBits(u16),
     /// An output that does not exist has a bound other than 0.
     AbsentOutput {
@@ -157,7 +166,10 @@ impl Display for BrokenRule {
     fn fmt(&self, formatter: &mut Formatter<'_>) -> std::fmt::Result {
         match *self {
             BrokenRule::FlagBits(flags) => {
-                write!(formatter, "the flag bits are {flags:012b}, not all 0")
+                write!(
+                    formatter,
+                    "the flag bits are {flags:012b}, not all 0 behind the first"
+                )
             }
             BrokenRule::AbsentOutput {
                 output,

@@ -41,7 +41,23 @@
 //! # }
 //! ```
 //!
-//! [`Job::check`] says whether a job meets one of the refusals 1, 11 and 3 to 6, those of its form, without recovering it.
+//! A row can report a pole, [`Row::pole`], and is right then exactly if g is 0 at its point; or it can be silent,
+//! [`Row::silent`], and is neither right nor wrong.
+//!
+//! ```
+//! # #[cfg(feature = "library")] {
+//! use hanthuvelo::Job;
+//!
+//! // 1 / u modulo 7, which has a pole at 0. Row 3 is silent.
+//! let job: Job = "prime 7 outputs 1 df 0 dg 1 errors 0\n0: pole\n1: 1\n2: 4\n3: silent".parse().expect("a readable job");
+//! let answer = job.recover().expect("an answer");
+//! assert_eq!(answer.fraction(0), "1 / u");
+//! assert!(answer.wrong_rows().is_empty());
+//! # }
+//! ```
+//!
+//! [`Job::check`] says whether a job meets one of the refusals 1, 11, 3 to 5, 12 and 6, those of its form, without
+//! recovering it.
 //!
 //! A [`Trial`] is the way back: a job whose result is known, written from fractions, with rows spoiled on purpose.
 //!
@@ -70,6 +86,7 @@ mod objection;
 mod prime;
 pub mod readable;
 mod refusal;
+mod row;
 mod trial;
 
 pub use answer::{polynomial_text, trimmed, Answer};
@@ -78,10 +95,11 @@ pub use bounds::{Bounds, NumeratorBounds};
 pub use call::{check, judge, reciprocal, recover, trial};
 pub use format::FormatError;
 pub use header::{BrokenRule, Header};
-pub use job::{Job, Row};
+pub use job::Job;
 pub use objection::{objection, Fault, Objection};
 pub use prime::Prime;
 pub use refusal::Refusal;
+pub use row::{Reading, Row};
 pub use trial::Trial;
 
 /// The most bytes that a job can have: the longer header, 31 rows, four outputs.
@@ -95,7 +113,7 @@ pub const LONGEST_ANSWER: usize = 254;
 #[repr(C)]
 #[derive(Clone, Copy, Debug, PartialEq, Eq)]
 pub struct Report {
-    /// The refusal's number, 1, 11 or 3 to 8; 0 where the job is recovered.
+    /// The refusal's number, 1, 11, 12 or 3 to 8; 0 where the job is recovered.
     pub refusal: u32,
     /// The row that refusal 5 or 6 speaks of, counted from 0; else 0.
     pub row: u32,
@@ -177,7 +195,7 @@ impl Written {
 #[repr(C)]
 #[derive(Clone, Copy, Debug, PartialEq, Eq)]
 pub struct Judgement {
-    /// The refusal's number, 1, 11 or 3 to 6; 0 where the answer is judged.
+    /// The refusal's number, 1, 11, 12 or 3 to 6; 0 where the answer is judged.
     pub refusal: u32,
     /// The row of the job that refusal 5 or 6 speaks of, counted from 0; else 0.
     pub row: u32,
@@ -221,14 +239,14 @@ impl Judgement {
 #[repr(C)]
 #[derive(Clone, Copy, Debug, PartialEq, Eq)]
 pub struct Form {
-    /// The refusal's number, 1, 11 or 3 to 6; 0 where none of these tests refuses the job.
+    /// The refusal's number, 1, 11, 12 or 3 to 6; 0 where none of these tests refuses the job.
     pub refusal: u32,
     /// The row that refusal 5 or 6 speaks of, counted from 0; else 0.
     pub row: u32,
 }
 
 impl Form {
-    /// What a call returns for a job that none of the tests 1, 11 and 3 to 6 refuses.
+    /// What a call returns for a job that none of the tests 1, 11, 3 to 5, 12 and 6 refuses.
     pub const ACCEPTED: Form = Form { refusal: 0, row: 0 };
 
     /// What a call returns for a job that is refused with this number, speaking of this row.
@@ -239,7 +257,7 @@ impl Form {
         }
     }
 
-    /// Whether none of the tests 1, 11 and 3 to 6 refuses the job.
+    /// Whether none of the tests 1, 11, 3 to 5, 12 and 6 refuses the job.
     pub fn is_accepted(&self) -> bool {
         self.refusal == 0
     }

@@ -2,7 +2,7 @@
 
 use crate::field::Field;
 use crate::format::{counted, output_name};
-use crate::{polynomial_text, trimmed, Answer, Bounds, Job, Row};
+use crate::{polynomial_text, trimmed, Answer, Bounds, Job, Reading, Row};
 use std::fmt::{Display, Formatter};
 
 /// A reason why an offered answer is not the job's. Shown as `the leading coefficient of g is 3, not 1`.
@@ -46,6 +46,13 @@ pub enum Objection {
         /// Its point.
         point: u16,
     },
+    /// The word marks a row that is silent, and neither right nor wrong.
+    SilentMarked {
+        /// The row, counted from 0.
+        row: usize,
+        /// Its point.
+        point: u16,
+    },
     /// A row is wrong, and the word does not mark it.
     WrongUnmarked {
         /// The row, counted from 0.
@@ -67,8 +74,10 @@ pub enum Objection {
 /// Why a row is wrong.
 #[derive(Clone, Copy, Debug, PartialEq, Eq)]
 pub enum Fault {
-    /// g is 0 at its point: there some f is not 0, so that no values make a row right.
+    /// It has values, and g is 0 at its point: there some f is not 0, so that no values make a row right.
     Pole,
+    /// It reports a pole, and g has this value at its point, which is not 0.
+    NoPole(u16),
     /// A value is another one.
     Value {
         /// The first output of which that holds, counted from 0.
@@ -84,8 +93,8 @@ pub enum Fault {
 ///
 /// The reasons are looked for in this order: the number of bytes; a coefficient of p or more, in the order of the bytes;
 /// g is zero; its leading coefficient is not 1; a polynomial of positive degree divides g and every f; the word marks a row
-/// that does not exist; a row is right and marked, or wrong and not marked; more rows are wrong than E. Of several rows the
-/// first by its number is named.
+/// that does not exist; a row is right or silent and marked, or wrong and not marked; more rows are wrong than E. Of several
+/// rows the first by its number is named.
 ///
 /// This look is written beside the proved library and is tested. Whether an answer is the job's is decided by
 /// [`Job::judge`], and this says why not.
@@ -167,12 +176,15 @@ impl Look<'_> {
         Some(Objection::MarkBeyond { row, rows })
     }
 
-    /// The first row that is marked and right, or wrong and not marked.
+    /// The first row that is marked and right or silent, or wrong and not marked.
     fn mark(&self) -> Option<Objection> {
         let marked = self.answer.wrong_rows();
         let objection = |(row, found): (usize, &Row)| {
             let point = found.point;
             match (self.fault(found), marked.contains(&row)) {
+                (None, true) if found.reading == Reading::Silent => {
+                    Some(Objection::SilentMarked { row, point })
+                }
                 (None, true) => Some(Objection::RightMarked { row, point }),
                 (Some(fault), false) => Some(Objection::WrongUnmarked { row, point, fault }),
                 _ => None,
@@ -184,11 +196,17 @@ impl Look<'_> {
     /// Why a row is wrong, if it is.
     fn fault(&self, row: &Row) -> Option<Fault> {
         let value_at = |polynomial: &[u16]| self.field.value_at(polynomial, row.point);
-        let Some(factor) = self.field.reciprocal(value_at(&self.answer.denominator)) else {
+        let below = value_at(&self.answer.denominator);
+        let values = match &row.reading {
+            Reading::Silent => return None,
+            Reading::Pole => return (below != 0).then_some(Fault::NoPole(below)),
+            Reading::Values(values) => values,
+        };
+        let Some(factor) = self.field.reciprocal(below) else {
             return Some(Fault::Pole);
         };
         let numerators = self.answer.numerators.iter().enumerate();
-        let values = numerators.zip(&row.values);
+        let values = numerators.zip(values);
         let mut faults = values.filter_map(|((output, numerator), &found)| {
             let needed = self.field.product(value_at(numerator), factor);
             let fault = Fault::Value {
@@ -234,9 +252,8 @@ impl Display for Objection {
                 let rows = counted(*rows, "row");
                 format!("the word marks row {row}, the job has {rows}")
             }
-            Objection::RightMarked { row, point } => {
-                format!("the word marks row {row}, at the point {point}, and it is right")
-            }
+            Objection::RightMarked { row, point } => marked_text(*row, *point, "right"),
+            Objection::SilentMarked { row, point } => marked_text(*row, *point, "silent"),
             Objection::WrongUnmarked { row, point, fault } => {
                 let place = format!("row {row}, at the point {point}");
                 format!("the word does not mark {place}, and it is wrong: {fault}")
@@ -246,6 +263,11 @@ impl Display for Objection {
             }
         })
     }
+}
+
+/// That a row is marked, and what it is instead of wrong.
+fn marked_text(row: usize, point: u16, what: &str) -> String {
+    format!("the word marks row {row}, at the point {point}, and it is {what}")
 }
 
 /// Which coefficient of which polynomial it is.
@@ -260,7 +282,12 @@ fn place_text(polynomial: &str, power: usize) -> String {
 impl Display for Fault {
     fn fmt(&self, formatter: &mut Formatter<'_>) -> std::fmt::Result {
         match *self {
-            Fault::Pole => formatter.write_str("g is 0 there, and a row at a root of g is wrong"),
+            Fault::Pole => {
+                formatter.write_str("g is 0 there, and a row with values at a root of g is wrong")
+            }
+            Fault::NoPole(value) => {
+                write!(formatter, "it reports a pole, and g is {value} there")
+            }
             Fault::Value {
                 output,
                 found,

@@ -14,6 +14,17 @@
 //! each output, as in `outputs 3 df 4 1 2`, each f has a bound of its own, and the bytes begin with the longer header, of 7.
 //! Where there is one output, `df 4 long` is that bound with the longer header.
 //!
+//! A row that reports a pole has the word `pole` in place of its values, and a silent one `silent`:
+//!
+//! ```text
+//! prime 7 outputs 2 df 0 dg 1 errors 0
+//! 3: 3 5
+//! 4: pole
+//! ```
+//!
+//! Such a row gives the job the longer header, with the flag for marks. Where no row is marked, the word `marks` behind the
+//! bounds, as in `df 0 marks` or `df 4 1 2 marks`, asks for that header.
+//!
 //! A trial has the same first line, then one for the number of rows and for what is spoiled, and a line for each polynomial:
 //!
 //! ```text
@@ -29,8 +40,8 @@
 mod first_line;
 mod trial;
 
-use crate::{FormatError, Job, Row};
-use first_line::{header_text, parse_header, HEADER};
+use crate::{FormatError, Job, Reading, Row};
+use first_line::{header_text, parse_header, Said, HEADER};
 use std::error::Error;
 use std::fmt::{Display, Formatter};
 use std::str::FromStr;
@@ -56,7 +67,7 @@ impl Error for TextError {}
 /// Whether bytes are meant as a readable job: they begin with a character of ASCII and have no control character but blanks.
 ///
 /// The bytes of a job that the library does not refuse as malformed never do. Their first one has the prime's code on
-/// top: 257 and 65521 give one beyond ASCII; modulo 7 and 97 every number of a row has the high byte 0.
+/// top: 257 and 65521 give one beyond ASCII; modulo 7 and 97 every point of a row has the high byte 0.
 pub fn is_readable(bytes: &[u8]) -> bool {
     let is_text = |byte: &u8| !byte.is_ascii_control() || b"\t\n\r".contains(byte);
     bytes.first().is_some_and(u8::is_ascii) && bytes.iter().all(is_text)
@@ -84,8 +95,11 @@ impl FromStr for Job {
 
     fn from_str(text: &str) -> Result<Job, TextError> {
         let mut lines = Lines::new(text);
-        let bounds = lines.take(HEADER, parse_header)?;
+        let (bounds, allows_marks) = lines.take(HEADER, parse_header)?;
         let mut job = Job::new(bounds).map_err(|error| lines.error(error))?;
+        if allows_marks {
+            job.allow_marks();
+        }
         while let Some(content) = lines.next() {
             parse_row(content, &mut job).map_err(|error| lines.error(error))?;
         }
@@ -164,6 +178,10 @@ fn groups<'a>(words: &[&'a str], form: &[&'a str]) -> Option<Vec<Vec<&'a str>>> 
     rest.is_empty().then_some(groups)
 }
 
+/// The words in place of the values of a row that reports a pole, and of a silent one.
+const POLE: &str = "pole";
+const SILENT: &str = "silent";
+
 fn parse_row(content: &str, job: &mut Job) -> Result<(), FormatError> {
     let Some((point, values)) = content.split_once(':') else {
         let found = excerpt(content);
@@ -172,12 +190,16 @@ fn parse_row(content: &str, job: &mut Job) -> Result<(), FormatError> {
         )));
     };
     let point = number(point.trim(), "point")?;
-    let values = values.split_whitespace();
-    let values: Result<_, _> = values.map(|word| number(word, "value")).collect();
-    job.push(Row {
-        point,
-        values: values?,
-    })
+    let reading = match values.trim() {
+        POLE => Reading::Pole,
+        SILENT => Reading::Silent,
+        words => {
+            let words = words.split_whitespace();
+            let values: Result<_, _> = words.map(|word| number(word, "value")).collect();
+            Reading::Values(values?)
+        }
+    };
+    job.push(Row { point, reading })
 }
 
 /// A decimal number. Numbers of p or more are let through, so that a refused job can be written.
@@ -208,13 +230,20 @@ fn excerpt(found: &str) -> String {
 
 impl Display for Job {
     fn fmt(&self, formatter: &mut Formatter<'_>) -> std::fmt::Result {
-        writeln!(formatter, "{}", header_text(self.bounds()))?;
-        for row in self.rows() {
-            write!(formatter, "{}:", row.point)?;
-            for value in &row.values {
-                write!(formatter, " {value}")?;
-            }
-            writeln!(formatter)?;
+        let has_mark = self.rows().iter().any(|row| row.reading.is_mark());
+        let said = match self.allows_marks() {
+            true if has_mark => Said::Nothing,
+            true => Said::Flag,
+            false => Said::Length,
+        };
+        writeln!(formatter, "{}", header_text(self.bounds(), said))?;
+        for Row { point, reading } in self.rows() {
+            let words: Vec<String> = match reading {
+                Reading::Values(values) => values.iter().map(u16::to_string).collect(),
+                Reading::Pole => vec![POLE.to_string()],
+                Reading::Silent => vec![SILENT.to_string()],
+            };
+            writeln!(formatter, "{point}: {}", words.join(" "))?;
         }
         Ok(())
     }

@@ -2,7 +2,7 @@
 
 use crate::format::{counted, numbers};
 use crate::objection::{of_denominator, of_length};
-use crate::{Bounds, Form, Header, Judgement, Report, Written};
+use crate::{Bounds, Form, Header, Job, Judgement, Reading, Report, Row, Written};
 use std::error::Error;
 use std::fmt::{Display, Formatter};
 
@@ -10,8 +10,8 @@ use std::fmt::{Display, Formatter};
 /// `refused 5, row 2: a point or a value is 7 or more`.
 #[derive(Clone, Debug, PartialEq, Eq)]
 pub struct Refusal {
-    /// The number: 1, 11 or 3 to 8 of a job; 1, 11, 3, 4, 9, 5, 10 or 7 of a trial; 1, 11 or 3 to 6 of a judgement or a
-    /// check.
+    /// The number: 1, 11, 12 or 3 to 8 of a job; 1, 11, 3, 4, 9, 5, 10 or 7 of a trial; 1, 11, 12 or 3 to 6 of a judgement or
+    /// a check.
     pub number: u32,
     /// The row that refusal 5 or 6 of a job speaks of, counted from 0; else 0.
     pub row: u32,
@@ -118,6 +118,12 @@ fn reason(number: u32, row: usize, header: Header, job: &[u8]) -> String {
             let point = rows.get(row * (1 + bounds.outputs)).copied();
             let point = point.unwrap_or(0);
             format!("its point {point} stands in an earlier row")
+        }
+        12 => {
+            let (needed, job) = (bounds.needed_rows(), Job::read(job, header));
+            let speaks = |row: &&Row| row.reading != Reading::Silent;
+            let speaking = job.rows().iter().filter(speaks).count();
+            format!("df + dg + 2 E + 1 is {needed}, the number of rows that speak is {speaking}")
         }
         7 => format!("the answer needs {} bytes", bounds.answer_length()),
         8 => {

@@ -17,7 +17,7 @@ use crate::{trimmed, Bounds, FormatError, Header, Job};
 /// let df = NumeratorBounds::Same(0);
 /// let bounds = Bounds { prime: Prime::P7, outputs: 2, df, dg: 1, errors: 2 };
 /// let mut trial = Trial::new(bounds, 7, &[1, 1], &[vec![5], vec![1]]).expect("fractions within the bounds");
-/// assert_eq!(trial.write().expect("a job").rows()[1].values, [6, 4]);
+/// assert_eq!(trial.write().expect("a job").rows()[1].values(), Some(&[6, 4][..]));
 ///
 /// // From the word 14 the pole is spoiled, and then row 0.
 /// (trial.start, trial.spoiled) = (14, 2);
@@ -35,6 +35,7 @@ use crate::{trimmed, Bounds, FormatError, Header, Job};
 #[derive(Clone, Debug, PartialEq, Eq)]
 pub struct Trial {
     bounds: Bounds,
+    allows_marks: bool,
     rows: usize,
     denominator: Vec<u16>,
     numerators: Vec<Vec<u16>>,
@@ -67,12 +68,25 @@ impl Trial {
         let numerators: Result<_, _> = numerators.iter().enumerate().map(numerator).collect();
         Ok(Trial {
             bounds,
+            allows_marks: false,
             rows,
             denominator: filled("g", denominator, bounds.dg)?,
             numerators: numerators?,
             start: 0,
             spoiled: 0,
         })
+    }
+
+    /// Takes the longer header with the flag by which rows can be marked. The job has no marked row all the same: a pole
+    /// has zeros, and is wrong.
+    pub fn allow_marks(&mut self) {
+        self.allows_marks = true;
+        self.bounds = self.bounds.with_longer_header();
+    }
+
+    /// Whether the header has the flag by which rows can be marked.
+    pub fn allows_marks(&self) -> bool {
+        self.allows_marks
     }
 
     /// Prime, number of outputs, and bounds.
@@ -97,7 +111,7 @@ impl Trial {
 
     /// The header's bytes, which the job begins with.
     pub fn header(&self) -> Vec<u8> {
-        Header::new(self.bounds, self.rows).pack()
+        Header::new(self.bounds, self.rows, self.allows_marks).pack()
     }
 
     /// The bytes of the coefficients, as an answer lists them behind its word.

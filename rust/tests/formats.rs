@@ -2,13 +2,14 @@
 
 #[path = "support/longer.rs"]
 mod longer;
+#[path = "support/marks.rs"]
+mod marks;
 
-use hanthuvelo::{
-    hex, readable, trimmed, Answer, Bounds, Header, Job, NumeratorBounds, Prime, Row,
-};
+use hanthuvelo::{hex, readable, trimmed, Answer, Bounds, Header, Job, NumeratorBounds, Prime};
 use longer::{df_of, has_longer_header, outputs_of, Added};
+use marks::row_of;
 use outside_checks::jobs::{enlargement, generate, Random};
-use outside_checks::layout;
+use outside_checks::layout::{self, HeaderForm};
 use outside_checks::second;
 
 const SEED: u64 = 31;
@@ -29,12 +30,10 @@ fn rebuilt(job: &layout::Job) -> Job {
     };
     let mut rebuilt = Job::new(bounds).expect("bounds");
     for row in &job.rows {
-        let number = |&number: &u32| u16::try_from(number).expect("16 bits");
-        let row = Row {
-            point: number(&row.point),
-            values: row.values.iter().map(number).collect(),
-        };
-        rebuilt.push(row).expect("a row");
+        rebuilt.push(row_of(job, row)).expect("a row");
+    }
+    if job.header == HeaderForm::Flagged {
+        rebuilt.allow_marks();
     }
     rebuilt
 }

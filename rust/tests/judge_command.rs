@@ -133,8 +133,8 @@ h01: 00000000 0001 0005: 2: 2: f1/g is 5 there, the row has 2
 h01: 00000000 0001 0002: 0: 0: f1/g is 2 there, the row has 5
 h02: 00000000 0000 0001 0002: 0: 1: f1/g is 2 there, the row has 1
 h08: 00000000 0001 0001 0001 0000 0000 0002: 1: 1: f2/g is 1 there, the row has 4
-h03: 00000000 0000 0001 0001: 0: 0: g is 0 there, and a row at a root of g is wrong
-poles: 10A00000 000F 0059 0001 0001 0002 0000 0004 0000 0001: 5: 5: g is 0 there, and a row at a root of g is wrong
+h03: 00000000 0000 0001 0001: 0: 0: g is 0 there, and a row with values at a root of g is wrong
+poles: 10A00000 000F 0059 0001 0001 0002 0000 0004 0000 0001: 5: 5: g is 0 there, and a row with values at a root of g is wrong
 ";
 
 #[test]

@@ -132,8 +132,8 @@ const REFUSED: [(&str, &str, &str); 5] = [
         "expected a header of 7 bytes, as the spare bit is 1, found 3",
     ),
     (
-        "01 80 03 00 00 08 00",
-        "11: the flag bits are 100000000000, not all 0",
+        "01 80 03 00 00 0C 00",
+        "11: the flag bits are 110000000000, not all 0 behind the first",
         "",
     ),
     (
@@ -189,7 +189,7 @@ const STREAM: [(&str, &str); 5] = [
     (OWN_BYTES, OWN_TEXT),
     (
         "11 84 21 00 40 00 01 0000 0001 0000 0001 0004 0004 0002 0005 0003",
-        "refused 11: the flag bits are 000000000001, not all 0",
+        "refused 11: the flag bits are 000000000001, not all 0 behind the first",
     ),
     (
         "11 84 21 08 00 00 00 0000 0001 0000 0001 0004 0004 0002 0005 0003",

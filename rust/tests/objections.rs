@@ -3,7 +3,7 @@
 use hanthuvelo::{hex, objection, Fault, Job, Objection};
 use outside_checks::definition;
 use outside_checks::jobs::{generate, Expected, Random};
-use outside_checks::layout::{self, row_bit, value_at, wrong_rows, Answer};
+use outside_checks::layout::{self, row_bit, value_at, wrong_rows, Answer, Mark};
 use outside_checks::paper::EXAMPLES;
 use outside_checks::second::polynomial::Polynomial;
 use outside_checks::second::{self, Field};
@@ -15,7 +15,7 @@ const SEED: u64 = 35;
 type Counts = BTreeMap<&'static str, usize>;
 
 /// Each kind of reason, with how many answers the generated run must have of it.
-const FLOORS: [(&str, usize); 11] = [
+const FLOORS: [(&str, usize); 13] = [
     ("none", 3000),
     ("byte count", 6000),
     ("large coefficient", 30_000),
@@ -24,6 +24,8 @@ const FLOORS: [(&str, usize); 11] = [
     ("common divisor", 2500),
     ("mark beyond", 15_000),
     ("right marked", 7000),
+    ("silent marked", 300),
+    ("false pole unmarked", 300),
     ("pole unmarked", 900),
     ("wrong unmarked", 18_000),
     ("too many wrong", 5000),
@@ -39,8 +41,10 @@ fn kind(found: &Option<Objection>) -> &'static str {
         Some(Objection::CommonDivisor(_)) => "common divisor",
         Some(Objection::MarkBeyond { .. }) => "mark beyond",
         Some(Objection::RightMarked { .. }) => "right marked",
+        Some(Objection::SilentMarked { .. }) => "silent marked",
         Some(Objection::WrongUnmarked { fault, .. }) => match fault {
             Fault::Pole => "pole unmarked",
+            Fault::NoPole(_) => "false pole unmarked",
             Fault::Value { .. } => "wrong unmarked",
         },
         Some(Objection::TooManyWrong { .. }) => "too many wrong",
@@ -138,8 +142,11 @@ impl Case {
                 let beyond = marks & (u32::MAX >> count);
                 count == rows.len() && beyond.leading_zeros() as usize == row
             }
-            Objection::RightMarked { row, point } => {
-                is_first(row) && marks & row_bit(row) != 0 && has_point(row, point)
+            Objection::RightMarked { row, point } | Objection::SilentMarked { row, point } => {
+                let is_silent = matches!(found, Objection::SilentMarked { .. });
+                let is_marked = is_first(row) && marks & row_bit(row) != 0;
+                let has_mark = self.outside.is_marked(row, Mark::Silent) == is_silent;
+                is_marked && has_mark && has_point(row, point)
             }
             Objection::WrongUnmarked { row, point, fault } => {
                 let is_unmarked = is_first(row) && marks & row_bit(row) == 0;
@@ -157,8 +164,13 @@ impl Case {
         let (prime, row) = (self.outside.prime(), &self.outside.rows[row]);
         let at_point = |polynomial: &[u32]| value_at(polynomial, row.point, prime);
         let below = at_point(&answer.denominator);
+        let mark = self.outside.mark(row);
         match fault {
-            Fault::Pole => below == 0,
+            Fault::Pole => below == 0 && mark.is_none(),
+            Fault::NoPole(value) => {
+                let is_value = below == u32::from(value) && below != 0;
+                is_value && mark == Some(Mark::Pole)
+            }
             Fault::Value {
                 output,
                 found,

@@ -209,8 +209,12 @@ fn bounds_and_words(header: &[u8]) -> Option<(Vec<usize>, String)> {
     let added = Some(Added::of(header)).filter(|added| !added.breaks_a_rule(header))?;
     let bounds = added.bounds[..outputs].to_vec();
     let words: Vec<String> = bounds.iter().map(usize::to_string).collect();
-    let long = if outputs == 1 { " long" } else { "" };
-    Some((bounds, words.join(" ") + long))
+    let word = match (added.flags, outputs) {
+        (0, 1) => " long",
+        (0, _) => "",
+        _ => " marks",
+    };
+    Some((bounds, words.join(" ") + word))
 }
 
 /// The readable trial of these bytes, every term written out; none where they do not fit each other.

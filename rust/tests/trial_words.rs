@@ -35,7 +35,7 @@ const REFUSED: [(&str, &str, u32, usize, &str); 21] = [
         "",
         8,
         0,
-        "11: the flag bits are 100000000001, not all 0",
+        "11: the flag bits are 100000000001, not all 0 behind the first",
     ),
     (
         "13 80 25 08 00 10 00",

@@ -306,7 +306,7 @@ static int longer_refused(size_t place, uint8_t byte, size_t job_length, uint32_
 static int check_longer(void)
 {
     EXPECT(HANTHUVELO_JOB_MAX == 317 && HANTHUVELO_ANSWER_MAX == 254);
-    EXPECT(HANTHUVELO_SPARE_BIT == 2 && HANTHUVELO_ADDED_HEADER == 11);
+    EXPECT(HANTHUVELO_SPARE_BIT == 2 && HANTHUVELO_ADDED_HEADER == 11 && HANTHUVELO_TOO_FEW_SPEAKING == 12);
 
     for (size_t length = 0; length < sizeof LONGER_JOB; length++) {
         EXPECT(longer_refused(0, 0x22, length, length < 7 ? HANTHUVELO_TOO_SHORT : HANTHUVELO_BYTE_COUNT));
@@ -315,6 +315,7 @@ static int check_longer(void)
     EXPECT(longer_refused(4, 0x06, sizeof LONGER_JOB, HANTHUVELO_ADDED_HEADER)); /* f3 has the bound 3 */
     EXPECT(longer_refused(5, 0x10, sizeof LONGER_JOB, HANTHUVELO_ADDED_HEADER)); /* f4 has the bound 1 */
     EXPECT(longer_refused(6, 0x01, sizeof LONGER_JOB, HANTHUVELO_ADDED_HEADER)); /* the last flag */
+    EXPECT(longer_refused(5, 0x04, sizeof LONGER_JOB, HANTHUVELO_ADDED_HEADER)); /* the second flag */
     EXPECT(longer_refused(2, 0x23, sizeof LONGER_JOB, HANTHUVELO_TOO_FEW_ROWS)); /* E is 1 */
 
     uint8_t area[HANTHUVELO_JOB_MAX];
@@ -342,8 +343,57 @@ static int check_longer(void)
     return 0;
 }
 
+/* Modulo 7: df 0, dg 1, E 0, values 3 and 5 at the point 3, and a pole at 4. g = 3 + u, f1 = 4, f2 = 2. */
+static const uint8_t MARKED_JOB[] = {0x11, 0, 0x21, 0, 0, 8, 0, 0, 3, 0, 3, 0, 5, 0, 4, 0xFF, 0xFF, 0xFF, 0xFF};
+static const uint8_t MARKED_ANSWER[] = {0, 0, 0, 0, 0, 3, 0, 1, 0, 4, 0, 2};
+
+/* Whether this job is refused so by every function that takes a job, and the area kept. */
+static int marked_refused(const uint8_t *job, uint32_t refusal, uint32_t row)
+{
+    uint8_t area[sizeof MARKED_ANSWER];
+    memset(area, FILLING, sizeof area);
+    return same(hanthuvelo_recover(job, sizeof MARKED_JOB, area, sizeof area), refusal, row, 0, 0)
+           && kept(area, 0, sizeof area) && checked(hanthuvelo_check(job, sizeof MARKED_JOB), refusal, row)
+           && judged(hanthuvelo_judge(job, sizeof MARKED_JOB, MARKED_ANSWER, sizeof MARKED_ANSWER), refusal, row, 0);
+}
+
+static int check_marked(void)
+{
+    EXPECT(HANTHUVELO_MARKS == 0x800 && HANTHUVELO_POLE == 0xFFFF && HANTHUVELO_SILENT == 0xFFFE);
+    uint8_t area[HANTHUVELO_ANSWER_MAX], job[sizeof MARKED_JOB], answer[sizeof MARKED_ANSWER];
+    memset(area, FILLING, sizeof area);
+    EXPECT(checked(hanthuvelo_check(MARKED_JOB, sizeof MARKED_JOB), HANTHUVELO_ACCEPTED, 0));
+    EXPECT(same(hanthuvelo_recover(MARKED_JOB, sizeof MARKED_JOB, area, sizeof area), HANTHUVELO_RECOVERED, 0, 12, 0));
+    EXPECT(memcmp(area, MARKED_ANSWER, sizeof MARKED_ANSWER) == 0 && kept(area, 12, sizeof area));
+    /* Every other byte at each place is a no, a mark at the row that reports the pole included. */
+    for (size_t place = 0; place < sizeof answer; place++) {
+        for (unsigned byte = 0; byte < 256; byte++) {
+            memcpy(answer, MARKED_ANSWER, sizeof answer);
+            answer[place] = (uint8_t)byte;
+            struct hanthuvelo_judgement j = hanthuvelo_judge(MARKED_JOB, sizeof MARKED_JOB, answer, sizeof answer);
+            EXPECT(judged(j, HANTHUVELO_JUDGED, 0, byte == MARKED_ANSWER[place]));
+        }
+    }
+    memcpy(job, MARKED_JOB, sizeof job);
+    job[18] = HANTHUVELO_SILENT & 0xFF; /* both marks in one row */
+    EXPECT(marked_refused(job, HANTHUVELO_OUT_OF_RANGE, 1));
+    job[16] = HANTHUVELO_SILENT & 0xFF; /* the row is silent, and one row alone speaks */
+    EXPECT(marked_refused(job, HANTHUVELO_TOO_FEW_SPEAKING, 0));
+    job[14] = 3; /* a point is repeated too, which is tested later */
+    EXPECT(marked_refused(job, HANTHUVELO_TOO_FEW_SPEAKING, 0));
+    memcpy(job, MARKED_JOB, sizeof job);
+    job[14] = 3;
+    EXPECT(marked_refused(job, HANTHUVELO_REPEATED_POINT, 1));
+    memcpy(job, MARKED_JOB, sizeof job);
+    job[5] = 0; /* without the flag */
+    EXPECT(marked_refused(job, HANTHUVELO_OUT_OF_RANGE, 1));
+    job[5] = 0x0C; /* the second flag besides */
+    EXPECT(marked_refused(job, HANTHUVELO_ADDED_HEADER, 0));
+    return 0;
+}
+
 int main(void)
 {
     return check_recover() || check_form() || check_trial() || check_reciprocal() || check_refusals() || check_judge()
-           || check_longer();
+           || check_longer() || check_marked();
 }

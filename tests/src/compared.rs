@@ -1,6 +1,6 @@
 //! Every check of a job's form beside a recovery, on the same bytes.
 
-use crate::jobs::form::{sound_job, Order};
+use crate::jobs::form::{unmarked_job, Order};
 use crate::jobs::Random;
 use crate::layout::Job;
 use crate::{checkers, implementations, Checker, Implementation};
@@ -42,9 +42,9 @@ impl Compared {
         self.form(job, Some(form), &|| hex::text(job));
     }
 
-    /// A job of this size that no check refuses: of the prime's code, the outputs and the rows.
+    /// A job of this size that no check refuses, without marked rows: of the prime's code, the outputs and the rows.
     pub fn sound(&self, random: &mut Random, size: (usize, usize, usize), order: Order) -> Job {
-        let job = sound_job(random, size, order);
+        let job = unmarked_job(random, size, order);
         self.expect(&job.pack(), Form::ACCEPTED);
         job
     }

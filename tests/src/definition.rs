@@ -1,7 +1,7 @@
-//! Paper 01's definition itself: every answer of a small job, by trying all polynomials; and what an
-//! offered answer of any job lacks of it.
+//! Paper 01's definition itself, with item 6 of paper 02 for marked rows: every answer of a small job, by trying all
+//! polynomials; and what an offered answer of any job lacks of it.
 
-use crate::layout::{is_right, trimmed, wrong_rows, Answer, HeaderForm, Job, Row};
+use crate::layout::{row_bit, trimmed, wrong_rows, Answer, HeaderForm, Job, Mark, Row};
 use crate::second::{reduced, Field};
 
 /// Every reduced answer within the job's bounds with at most E wrong rows.
@@ -48,6 +48,8 @@ pub enum Fault {
     CommonDivisor,
     /// The word marks a right row, or does not mark a wrong one.
     WrongMark,
+    /// The word marks a silent row.
+    SilentRow,
     /// The word marks a row that does not exist.
     NoSuchRow,
     /// More than E rows are wrong.
@@ -55,12 +57,13 @@ pub enum Fault {
 }
 
 impl Fault {
-    pub const ALL: [Fault; 7] = [
+    pub const ALL: [Fault; 8] = [
         Fault::LargeCoefficient,
         Fault::ZeroDenominator,
         Fault::LeadingCoefficient,
         Fault::CommonDivisor,
         Fault::WrongMark,
+        Fault::SilentRow,
         Fault::NoSuchRow,
         Fault::TooManyWrong,
     ];
@@ -77,12 +80,14 @@ pub fn faults(job: &Job, offered: &Answer) -> Vec<Fault> {
     let leading = trimmed(&denominator).last().copied().unwrap_or(0);
     let wrong = wrong_rows(job, &denominator, &numerators);
     let no_rows = u32::MAX >> job.rows.len();
+    let silent: u32 = job.marked(Mark::Silent).into_iter().map(row_bit).sum();
     let found = [
         lists().flatten().any(|&number| number >= prime),
         leading == 0,
         leading > 1,
         leading > 0 && has_common_divisor(&denominator, &numerators, leading, prime),
-        (offered.word ^ wrong) & !no_rows != 0,
+        (offered.word ^ wrong) & !no_rows & !silent != 0,
+        offered.word & silent != 0,
         offered.word & no_rows != 0,
         wrong.count_ones() as usize > job.error_bound,
     ];
@@ -103,7 +108,7 @@ fn has_common_divisor(g: &[u32], numerators: &[Vec<u32>], leading: u32, prime: u
 fn has_few_wrong_rows(job: &Job, denominator: &[u32], coefficients: &[u32]) -> bool {
     let wrong = job.rows.iter().filter(|row| {
         let numerators = job.numerators_in(coefficients);
-        !is_right(denominator, numerators, row, job.prime())
+        job.is_wrong(row, denominator, numerators)
     });
     wrong.take(job.error_bound + 1).count() <= job.error_bound
 }
@@ -175,19 +180,9 @@ pub fn for_each_list(length: usize, prime: u32, visit: &mut dyn FnMut(&[u32])) {
 
 /// Calls `visit` with every job modulo 7 that has these bounds of each f, of g and of the wrong rows, no row more than they
 /// need, and its rows at the points 0 to L − 1. Its header is the longer one.
-pub fn for_each_smallest_job(
-    (numerator_bounds, dg, errors): (&[usize], usize, usize),
-    visit: &mut dyn FnMut(&Job),
-) {
-    let outputs = numerator_bounds.len();
-    let mut job = Job {
-        header: HeaderForm::Longer,
-        prime_code: 0,
-        numerator_bounds: numerator_bounds.to_vec(),
-        denominator_bound: dg,
-        error_bound: errors,
-        rows: Vec::new(),
-    };
+pub fn for_each_smallest_job(bounds: (&[usize], usize, usize), visit: &mut dyn FnMut(&Job)) {
+    let mut job = job_without_rows(HeaderForm::Longer, bounds);
+    let outputs = job.outputs();
     for_each_list(job.needed_rows() * outputs, 7, &mut |values| {
         let row = |(point, values): (u32, &[u32])| Row {
             point,
@@ -195,5 +190,49 @@ pub fn for_each_smallest_job(
         };
         job.rows = (0..).zip(values.chunks(outputs)).map(row).collect();
         visit(&job);
+    });
+}
+
+fn job_without_rows(
+    header: HeaderForm,
+    (numerator_bounds, dg, errors): (&[usize], usize, usize),
+) -> Job {
+    Job {
+        header,
+        prime_code: 0,
+        numerator_bounds: numerator_bounds.to_vec(),
+        denominator_bound: dg,
+        error_bound: errors,
+        rows: Vec::new(),
+    }
+}
+
+/// The same under the flag, with so many rows more, each of values, with a pole or silent in every way, but for the jobs of
+/// which too few rows speak or none is marked.
+pub fn for_each_marked_job(
+    bounds: (&[usize], usize, usize),
+    surplus: usize,
+    visit: &mut dyn FnMut(&Job),
+) {
+    let mut job = job_without_rows(HeaderForm::Flagged, bounds);
+    let (outputs, row_count) = (job.outputs(), job.needed_rows() + surplus);
+    for_each_list(row_count, 3, &mut |kinds| {
+        let value_rows = kinds.iter().filter(|&&kind| kind == 2).count();
+        let silent_rows = kinds.iter().filter(|&&kind| kind == 1).count();
+        if silent_rows > surplus || value_rows == row_count {
+            return;
+        }
+        for_each_list(value_rows * outputs, 7, &mut |values| {
+            let mut chunks = values.chunks(outputs);
+            let row = |(point, &kind): (u32, &u32)| match Mark::ALL.get(kind as usize) {
+                Some(mark) => mark.row(point, outputs),
+                None => Row {
+                    point,
+                    values: chunks.next().expect("values of a row").to_vec(),
+                },
+            };
+            job.rows = (0..).zip(kinds).map(row).collect();
+            visit(&job);
+        });
     });
 }

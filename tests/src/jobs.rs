@@ -2,12 +2,15 @@
 
 mod added;
 pub mod enlargement;
+mod false_marks;
 mod faults;
 mod faulty;
 pub mod form;
 mod fraction;
 mod header_tally;
 pub mod judged;
+mod mark_tally;
+mod marked;
 pub mod measured;
 mod own_bound;
 mod planted;
@@ -18,7 +21,9 @@ pub mod trial;
 
 use crate::layout::Answer;
 use added::Broken;
+use false_marks::FalseMark;
 use hanthuvelo::{hex, Form, Report};
+use marked::Marks;
 use own_bound::beyond_own_bound;
 use planted::{planted, Planted, Shape, WrongRows};
 pub use random::Random;
@@ -44,11 +49,11 @@ pub enum Expected {
 }
 
 impl Expected {
-    /// What is known of the job's form: which of the refusals 1, 11 and 3 to 6 applies, if one does.
+    /// What is known of the job's form: which of the refusals 1, 11, 3 to 5, 12 and 6 applies, if one does.
     fn form(&self) -> Option<Form> {
         match *self {
             Expected::Refused {
-                number: number @ (1..=6 | 11),
+                number: number @ (1..=6 | 11 | 12),
                 row,
             } => Some(Form::refused(number, row)),
             Expected::Open => None,
@@ -70,10 +75,10 @@ pub struct GeneratedJob {
 }
 
 /// What else is wrong where an added header is broken: nothing, or the cause of a refusal.
-const OTHER_FAULTS: [u32; 7] = [0, 1, 3, 4, 5, 6, 7];
+const OTHER_FAULTS: [u32; 8] = [0, 1, 3, 4, 5, 12, 6, 7];
 
 /// Where jobs come from, with the share of each.
-const PLAN: [(Source, usize); 27] = [
+const PLAN: [(Source, usize); 42] = [
     (Source::Planted(Shape::Any, WrongRows::Exact), 11),
     (Source::Planted(Shape::Poles, WrongRows::Exact), 6),
     (Source::Planted(Shape::Any, WrongRows::Fewer), 4),
@@ -90,6 +95,22 @@ const PLAN: [(Source, usize); 27] = [
     (Source::Planted(Shape::Any, WrongRows::OneTooMany), 4),
     (Source::Planted(Shape::Poles, WrongRows::OneTooMany), 1),
     (Source::Planted(Shape::WholeField, WrongRows::OneTooMany), 1),
+    (Source::marked(Marks::Poles, WrongRows::None), 1),
+    (Source::marked(Marks::Poles, WrongRows::Fewer), 1),
+    (Source::marked(Marks::Poles, WrongRows::Exact), 2),
+    (Source::marked(Marks::OwnPoles, WrongRows::None), 2),
+    (Source::marked(Marks::OwnPoles, WrongRows::Exact), 2),
+    (Source::marked(Marks::PolesAboveErrors, WrongRows::None), 1),
+    (Source::marked(Marks::PolesAboveErrors, WrongRows::Exact), 2),
+    (Source::marked(Marks::Silent, WrongRows::Fewer), 1),
+    (Source::marked(Marks::Silent, WrongRows::Exact), 2),
+    (Source::marked(Marks::PolesAndSilent, WrongRows::Exact), 3),
+    (Source::marked(Marks::PolesAndSilent, WrongRows::Fewer), 1),
+    (
+        Source::marked(Marks::PolesAndSilent, WrongRows::OneTooMany),
+        1,
+    ),
+    (Source::marked(Marks::OwnPoles, WrongRows::OneTooMany), 1),
     (Source::BeyondOwnBound, 2),
     (Source::Faulty(1), 1),
     (Source::SpareBit, 1),
@@ -97,6 +118,8 @@ const PLAN: [(Source, usize); 27] = [
     (Source::Faulty(3), 1),
     (Source::Faulty(4), 1),
     (Source::Faulty(5), 1),
+    (Source::FalseMark, 3),
+    (Source::Faulty(12), 2),
     (Source::Faulty(6), 1),
     (Source::Faulty(7), 1),
     (Source::RandomValues, 1),
@@ -110,10 +133,18 @@ enum Source {
     BeyondOwnBound,
     /// Made to be refused with this number.
     Faulty(u32),
+    /// Refused with 5 for what is no mark.
+    FalseMark,
     SpareBit,
     Broken,
     RandomValues,
     DamagedOrRandom,
+}
+
+impl Source {
+    const fn marked(marks: Marks, wrong: WrongRows) -> Source {
+        Source::Planted(Shape::Marked(marks), wrong)
+    }
 }
 
 /// The job of this number in the run of this seed.
@@ -124,6 +155,7 @@ pub fn generate(seed: u64, index: u64) -> GeneratedJob {
         Source::Planted(shape, wrong) => from_planted(&mut random, shape, wrong),
         Source::BeyondOwnBound => from_beyond_own_bound(&mut random),
         Source::Faulty(number) => faulty::refused(&mut random, number),
+        Source::FalseMark => FalseMark::of_turn(turn).job(&mut random),
         Source::SpareBit => faulty::spare_bit(&mut random),
         Source::Broken => faulty::broken(&mut random, Broken::of_turn(turn, &OTHER_FAULTS)),
         Source::RandomValues => faulty::random_values(&mut random),
@@ -202,6 +234,7 @@ fn labels(shape: Shape, wrong: WrongRows) -> Vec<Kind> {
         Shape::AllZero => kinds.push(Kind::AllZero),
         Shape::WholeField => kinds.push(Kind::WholeField),
         Shape::LooseBounds => kinds.push(Kind::LooseBounds),
+        Shape::Marked(marks) => kinds.push(Kind::of_marks(marks)),
     }
     kinds
 }

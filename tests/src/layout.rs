@@ -1,5 +1,9 @@
-//! The formats of paper 01, with the longer header of paper 02, as the generator and the tests use
+//! The formats of paper 01, with the longer header and the marked rows of paper 02, as the generator and the tests use
 //! them: job and answer bytes written and read back. The solvers have readers and writers of their own.
+
+mod marks;
+
+pub use marks::Mark;
 
 /// The primes by their codes.
 pub const PRIMES: [u32; 4] = [7, 97, 257, 65521];
@@ -14,28 +18,39 @@ pub struct Row {
     pub values: Vec<u32>,
 }
 
-/// Which of the two headers a job begins with.
+/// Which header a job begins with.
 #[derive(Clone, Copy, Debug, PartialEq, Eq, PartialOrd, Ord)]
 pub enum HeaderForm {
     /// Three bytes with the spare bit 0; df bounds every f.
     Short,
-    /// Four more bytes behind the spare bit 1: a bound for each f, and flags.
+    /// Four more bytes behind the spare bit 1: a bound for each f, and flags, which are all 0.
     Longer,
+    /// The same with the first flag 1, by which rows can be marked.
+    Flagged,
 }
 
 impl HeaderForm {
-    pub const ALL: [HeaderForm; 2] = [HeaderForm::Short, HeaderForm::Longer];
+    pub const ALL: [HeaderForm; 3] = [HeaderForm::Short, HeaderForm::Longer, HeaderForm::Flagged];
 
-    /// The form of the header that three bytes or more begin with.
+    /// The form of the header that three bytes or more begin with; flags that are not there count as 0.
     pub fn of(bytes: &[u8]) -> HeaderForm {
-        HeaderForm::ALL[usize::from(bytes[2] % 2)]
+        match (bytes[2] % 2, bytes.get(5)) {
+            (0, _) => HeaderForm::Short,
+            (_, Some(byte)) if byte / 8 % 2 == 1 => HeaderForm::Flagged,
+            _ => HeaderForm::Longer,
+        }
+    }
+
+    /// Whether the spare bit is 1.
+    pub fn is_longer(self) -> bool {
+        self != HeaderForm::Short
     }
 
     /// How many bytes the header has.
     pub fn length(self) -> usize {
         match self {
             HeaderForm::Short => 3,
-            HeaderForm::Longer => 7,
+            HeaderForm::Longer | HeaderForm::Flagged => 7,
         }
     }
 }
@@ -72,11 +87,13 @@ impl Job {
         self.numerator_bounds.iter().all(|&bound| bound == df)
     }
 
-    /// The forms of header that the job can have: the short one only where all bounds are equal.
+    /// The forms of header that the job can have with the same meaning: the short one only where all bounds are equal, and
+    /// the flag alone where a row is marked.
     pub fn headers(&self) -> &'static [HeaderForm] {
-        match self.has_equal_bounds() {
-            true => &HeaderForm::ALL,
-            false => &[HeaderForm::Longer],
+        match (self.has_marks(), self.has_equal_bounds()) {
+            (true, _) => &HeaderForm::ALL[2..],
+            (_, false) => &HeaderForm::ALL[1..],
+            _ => &HeaderForm::ALL,
         }
     }
 
@@ -138,7 +155,11 @@ impl Job {
         ];
         let bounds = self.numerator_bounds.iter().map(|&bound| (5, bound));
         let absent = std::iter::repeat_n((5, 0), 4 - self.outputs());
-        let added = bounds.chain(absent).chain([(12, 0)]);
+        let flags = [
+            (1, usize::from(self.header == HeaderForm::Flagged)),
+            (11, 0),
+        ];
+        let added = bounds.chain(absent).chain(flags);
         let added = added.filter(|_| !is_short);
         let mut bits = 0u64;
         for (width, number) in fields.into_iter().chain(added) {
@@ -157,7 +178,7 @@ impl Job {
         let (header, outputs) = (HeaderForm::of(bytes), field(20, 2) + 1);
         let numerator_bounds = match header {
             HeaderForm::Short => vec![field(10, 5); outputs],
-            HeaderForm::Longer => added_bounds(&bytes[3..7])[..outputs].to_vec(),
+            _ => added_bounds(&bytes[3..7])[..outputs].to_vec(),
         };
         let row = |stretch: &[u8]| Row {
             point: number(&stretch[..2]),
@@ -184,7 +205,7 @@ pub fn has_sound_added_header(bytes: &[u8]) -> bool {
     let bounds = added_bounds(&bytes[3..7]);
     let flags = number(&bytes[5..7]) % 4096;
     let has_absent = bounds[outputs..].iter().any(|&bound| bound > 0);
-    bounds[..outputs].iter().max() == Some(&df) && !has_absent && flags == 0
+    bounds[..outputs].iter().max() == Some(&df) && !has_absent && flags % 0x800 == 0
 }
 
 /// The four bounds in the four bytes of an added header.
@@ -276,7 +297,7 @@ pub fn value_at(coefficients: &[u32], point: u32, prime: u32) -> u32 {
     sum
 }
 
-/// Paper 01's "right": fi(x) = g(x) yi modulo p for every output.
+/// Paper 01's "right" of a row with values: fi(x) = g(x) yi modulo p for every output.
 pub fn is_right<'a>(
     denominator: &[u32],
     numerators: impl Iterator<Item = &'a [u32]>,
@@ -289,11 +310,11 @@ pub fn is_right<'a>(
         .all(|(numerator, &value)| value_at(numerator, row.point, prime) == below * value % prime)
 }
 
-/// The word of the rows that are not right.
+/// The word of the wrong rows.
 pub fn wrong_rows(job: &Job, denominator: &[u32], numerators: &[Vec<u32>]) -> u32 {
     let wrong = |row: &usize| {
         let polynomials = numerators.iter().map(Vec::as_slice);
-        !is_right(denominator, polynomials, &job.rows[*row], job.prime())
+        job.is_wrong(&job.rows[*row], denominator, polynomials)
     };
     (0..job.rows.len()).filter(wrong).map(row_bit).sum()
 }

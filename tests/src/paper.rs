@@ -1,7 +1,10 @@
 //! The worked examples of paper 01, typed from it, and examples of the longer header of paper 02, item 5, worked out by
 //! hand.
 
+mod marks;
+
 use hanthuvelo::Report;
+pub use marks::{MARKS, MARKS_REFUSALS, NOT_ANSWERS_WITH_MARKS, POLE_PRINTED};
 
 /// A job of the paper with the area that it is given and what comes back.
 pub struct Example {
@@ -186,7 +189,7 @@ pub const LONGER_REFUSALS: [Example; 30] = [
     refused("11, df above f1", "01 84 01 00000000 0000 0005 0001 0005 0002 0002", 10, 11, 0),
     // The largest of all four places is df, the largest of those that exist is not.
     refused("11, df at f2", "01 84 01 00400000 0000 0005 0001 0005 0002 0002", 10, 11, 0),
-    refused("11, flag 1", "01 80 03 00000800 0000 0005 0001 0005 0002 0002", 8, 11, 0),
+    refused("11, flag 2", "01 80 03 00000400 0000 0005 0001 0005 0002 0002", 8, 11, 0),
     refused("11, flag 5", "01 80 03 00000080 0000 0005 0001 0005 0002 0002", 8, 11, 0),
     refused("11, flag 12", "01 80 03 00000001 0000 0005 0001 0005 0002 0002", 8, 11, 0),
     // Three of the bounds 2, 0, 1 exist.

@@ -8,7 +8,7 @@ use outside_checks::jobs::{generate, GeneratedJob, Tally};
 use outside_checks::{conclude, expect_repeatable, implementations, setting};
 
 const SEED: u64 = 20_140_601;
-const JOBS: u64 = 100_000;
+const JOBS: u64 = 150_000;
 
 /// Every implementation's report, which must be the same, and so must the areas.
 fn agreed_report(job: &GeneratedJob) -> Report {

@@ -11,7 +11,7 @@ use outside_checks::layout::{has_sound_added_header, HeaderForm, Job, MOST_ROWS,
 use outside_checks::{conclude, expect_repeatable, setting, show};
 
 const SEED: u64 = 18_446_744;
-const JOBS: u64 = 50_000;
+const JOBS: u64 = 65_000;
 
 /// Recovers the job: refused with what the check found, and answered or refused with 8 where it found
 /// nothing. Returns whether it is answered.
@@ -82,12 +82,19 @@ fn a_job_is_read_alike_wherever_it_stands() {
     assert!(places == 96_000 && answered >= 200);
 }
 
-/// The form of a sound job after another number was put in a row: refused with 5 if it is p or more,
-/// with 6 if it is the point of another row, at the later one of the two. Column 0 has the points.
+/// The form of a sound job without marks after another number was put in a row: refused with 5 if it is p or more,
+/// with 6 if it is the point of another row, at the later one of the two. Column 0 has the points. Where the flag is set and
+/// there is one value, that can be a mark: too few rows speak if the job has none to spare and the row is silent.
 fn with_number(job: &Job, row: usize, column: usize, number: u32) -> Form {
     let has_it = |other: &usize| *other != row && job.rows[*other].point == number;
     let same = (0..job.rows.len()).find(has_it).filter(|_| column == 0);
+    let can_be_mark = job.header == HeaderForm::Flagged && column == 1 && job.outputs() == 1;
     match same {
+        _ if can_be_mark && number == 65535 => Form::ACCEPTED,
+        _ if can_be_mark && number == 65534 => match job.rows.len() > job.needed_rows() {
+            true => Form::ACCEPTED,
+            false => Form::refused(12, 0),
+        },
         _ if number >= job.prime() => Form::refused(5, row as u32),
         Some(other) => Form::refused(6, row.max(other) as u32),
         None => Form::ACCEPTED,
@@ -99,7 +106,7 @@ fn place_of(job: &Job, row: usize, column: usize) -> usize {
     job.header.length() + 2 * (row * (1 + job.outputs()) + column)
 }
 
-fn put_every_number(compared: &Compared, job: &Job, counts: &mut [usize; 12]) {
+fn put_every_number(compared: &Compared, job: &Job, counts: &mut [usize; 13]) {
     let columns = (0..=job.outputs()).flat_map(|column| [(0, column), (2, column)]);
     for (row, column) in columns {
         let mut bytes = job.pack();
@@ -113,12 +120,12 @@ fn put_every_number(compared: &Compared, job: &Job, counts: &mut [usize; 12]) {
     }
 }
 
-/// Every 16-bit number at every column of the first and of the last of three rows, under both headers.
+/// Every 16-bit number at every column of the first and of the last of three rows, under every header.
 #[test]
 fn every_number_at_every_column() {
     let compared = Compared::default();
     let mut random = Random::new(SEED, 1);
-    let mut counts = [0; 12];
+    let mut counts = [0; 13];
     for prime_code in 0..PRIMES.len() {
         for outputs in 1..=4 {
             let size = (prime_code, outputs, 3);
@@ -128,13 +135,13 @@ fn every_number_at_every_column() {
             }
         }
     }
-    let [accepted, _, _, _, _, large, repeated, ..] = counts;
-    show(&format!("all numbers at all columns: {accepted} accepted, {large} refused with 5, {repeated} with 6\n"));
+    let [accepted, _, _, _, _, large, repeated, .., silent] = counts;
+    show(&format!("all numbers at all columns: {accepted} accepted, {large} refused with 5, {silent} with 12, {repeated} with 6\n"));
     assert_eq!(
-        accepted + large + repeated,
-        (2 * 4 * 2 * (2 + 3 + 4 + 5)) << 16
+        accepted + large + repeated + silent,
+        (3 * 4 * 2 * (2 + 3 + 4 + 5)) << 16
     );
-    assert_eq!(repeated, 2 * 4 * 4 * 2 * 2);
+    assert_eq!(repeated, 3 * 4 * 4 * 2 * 2);
 }
 
 /// Gives each row the point of each earlier one; returns how many pairs there are.
@@ -153,7 +160,7 @@ fn repeat_every_point(compared: &Compared, job: &Job) -> usize {
     pairs
 }
 
-/// Every pair of rows has the same point, in jobs of every size, under both headers.
+/// Every pair of rows has the same point, in jobs of every size, under every header.
 #[test]
 fn every_pair_of_rows_with_the_same_point() {
     let compared = Compared::default();
@@ -170,7 +177,7 @@ fn every_pair_of_rows_with_the_same_point() {
         }
     }
     show(&format!("pairs of rows with the same point: {pairs}\n"));
-    assert_eq!(pairs, 2 * 4 * (3 * 31 * 32 * 30 / 6 + 7 * 8 * 6 / 6));
+    assert_eq!(pairs, 3 * 4 * (3 * 31 * 32 * 30 / 6 + 7 * 8 * 6 / 6));
 }
 
 /// Every number of outputs with every number of rows.
@@ -191,7 +198,7 @@ fn with_flipped_bit(job: &Job, bytes: &[u8], bit: usize) -> Form {
         return with_number(job, row, column, u32::from(number));
     }
     let flipped = Job::unpack(bytes);
-    if flipped.header == HeaderForm::Longer && !has_sound_added_header(bytes) {
+    if flipped.header.is_longer() && !has_sound_added_header(bytes) {
         return Form::refused(11, 0);
     }
     match bit {
@@ -213,7 +220,7 @@ fn with_prime(job: &Job, prime: u32) -> Form {
     }
 }
 
-fn flip_every_bit(compared: &Compared, job: &Job, counts: &mut [usize; 12]) {
+fn flip_every_bit(compared: &Compared, job: &Job, counts: &mut [usize; 13]) {
     let mut bytes = job.pack();
     for bit in 0..8 * bytes.len() {
         bytes[bit / 8] ^= 128 >> (bit % 8);
@@ -228,7 +235,7 @@ fn flip_every_bit(compared: &Compared, job: &Job, counts: &mut [usize; 12]) {
 fn every_flipped_bit_of_a_sound_job() {
     let compared = Compared::default();
     let mut random = Random::new(SEED, 3);
-    let mut counts = [0; 12];
+    let mut counts = [0; 13];
     for (outputs, row_count) in sizes() {
         for (prime_code, order) in [(1, 0), (2, 1), (3, 2), (random.below(4), 2)] {
             let row_count = row_count.min(PRIMES[prime_code] as usize);
@@ -240,10 +247,10 @@ fn every_flipped_bit_of_a_sound_job() {
         }
     }
     show(&format!(
-        "flipped bits of sound jobs: accepted, and refused with 1 to 11: {counts:?}\n"
+        "flipped bits of sound jobs: accepted, and refused with 1 to 12: {counts:?}\n"
     ));
     // The spare bit was refused with 2, and is with 3 or 11.
-    let floors = [100_000, 0, 0, 2400, 2000, 100_000, 500, 0, 0, 0, 0, 4000];
+    let floors = [100_000, 0, 0, 2400, 2000, 100_000, 500, 0, 0, 0, 0, 4000, 0];
     assert!(counts
         .iter()
         .zip(floors)

@@ -1,9 +1,9 @@
 //! Every header against every check of a job's form: all numbers of the first three bytes, all bounds and all flags of the
-//! added header, and all lengths under both.
+//! added header, and all lengths under each.
 
 use hanthuvelo::Form;
 use outside_checks::compared::Compared;
-use outside_checks::jobs::form::{sound_job, Order};
+use outside_checks::jobs::form::{unmarked_job, Order};
 use outside_checks::jobs::Random;
 use outside_checks::layout::{has_sound_added_header, HeaderForm, Job};
 use outside_checks::show;
@@ -119,7 +119,7 @@ fn every_longer_header_with_equal_bounds() {
 
 /// A job of 31 rows modulo 97 under the longer header, with this df for every output; dg and E are 0.
 fn job_with_df(outputs: usize, df: usize) -> Job {
-    let sound = sound_job(&mut Random::new(SEED, 0), (1, outputs, 31), Order::Rising);
+    let sound = unmarked_job(&mut Random::new(SEED, 0), (1, outputs, 31), Order::Rising);
     Job {
         numerator_bounds: vec![df; outputs],
         denominator_bound: 0,
@@ -168,7 +168,7 @@ fn every_list_of_bounds() {
     ));
 }
 
-/// All 2^12 flags; 31 rows do not suffice for df 31, which is tested later.
+/// All 2^12 flags, of which the first alone is let through; 31 rows do not suffice for df 31, which is tested later.
 #[test]
 fn every_flag() {
     let compared = Compared::default();
@@ -180,8 +180,8 @@ fn every_flag() {
             bytes[5..7].copy_from_slice(&flags.to_be_bytes());
             bytes[5] |= third;
             let form = match flags {
-                0 if df == 31 => Form::refused(4, 0),
-                0 => Form::ACCEPTED,
+                0 | 0x800 if df == 31 => Form::refused(4, 0),
+                0 | 0x800 => Form::ACCEPTED,
                 _ => Form::refused(11, 0),
             };
             compared.expect(&bytes, form);
@@ -191,7 +191,7 @@ fn every_flag() {
     show(&format!(
         "flags of the added header: {refused} refused with 11\n"
     ));
-    assert_eq!(refused, 5 * 4095);
+    assert_eq!(refused, 5 * 4094);
 }
 
 /// Every byte at each of the four places of the added header.
@@ -202,7 +202,7 @@ fn every_byte_of_the_added_header() {
     let (mut accepted, mut refused) = (0, 0);
     for index in 0..400 {
         let size = (index % 4, 1 + index / 4 % 4, 1 + index % 7);
-        let job = sound_job(&mut random, size, Order::Shuffled);
+        let job = unmarked_job(&mut random, size, Order::Shuffled);
         let sound = job.under(HeaderForm::Longer).pack();
         for (place, byte) in (3..7).flat_map(|place| (0..=255).map(move |byte| (place, byte))) {
             let mut bytes = sound.clone();
@@ -222,15 +222,16 @@ fn every_byte_of_the_added_header() {
     assert!(accepted >= 1600 && refused >= 350_000);
 }
 
-/// Every number of bytes below 700 for every number of rows and outputs of each prime under both headers, and lengths whose
+/// Every number of bytes below 700 for every number of rows and outputs of each prime under every header, and lengths whose
 /// lower bits are right.
 #[test]
 fn every_length() {
     let compared = Compared::default();
     let mut lengths = 0;
     for (upper, form) in (0..1 << 9).flat_map(|upper| HeaderForm::ALL.map(|form| (upper, form))) {
-        let header = upper << 15 | u32::from(form == HeaderForm::Longer);
-        let added = equal_bounds(header);
+        let header = upper << 15 | u32::from(form.is_longer());
+        let mut added = equal_bounds(header);
+        added[2] |= if form == HeaderForm::Flagged { 8 } else { 0 };
         let added = &added[..form.length() - 3];
         let mut bytes = [&first_bytes(header)[..], added, &rows(header)].concat();
         let right = bytes.len();
@@ -247,5 +248,5 @@ fn every_length() {
         }
     }
     show(&format!("jobs of all lengths: {lengths}\n"));
-    assert_eq!(lengths, (2 * (700 + 5)) << 9);
+    assert_eq!(lengths, (3 * (700 + 5)) << 9);
 }

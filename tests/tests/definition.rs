@@ -2,9 +2,9 @@
 
 use hanthuvelo::hex;
 use hanthuvelo::Report;
-use outside_checks::definition::{answers, candidates, for_each_smallest_job};
+use outside_checks::definition::{answers, candidates, for_each_marked_job, for_each_smallest_job};
 use outside_checks::jobs::Random;
-use outside_checks::layout::{HeaderForm, Job, Row};
+use outside_checks::layout::{value_at, HeaderForm, Job, Mark, Row};
 use outside_checks::{implementations, Implementation};
 
 const SEED: u64 = 31;
@@ -154,6 +154,30 @@ fn random_job(random: &mut Random) -> Job {
     job
 }
 
+/// The same with marks: rows at roots of the denominator report them, mostly, and others at times; rows to spare are silent at
+/// times.
+fn random_marked_job(random: &mut Random) -> Job {
+    let mut job = random_values(random);
+    job.header = HeaderForm::Flagged;
+    let mut draw = |bound: usize| (0..=bound).map(|_| random.residue(7)).collect::<Vec<u32>>();
+    let denominator = draw(job.denominator_bound);
+    let bounds = job.numerator_bounds.clone();
+    let numerators: Vec<Vec<u32>> = bounds.into_iter().map(&mut draw).collect();
+    let spoilt = random.between(0, job.error_bound + 1);
+    fit_rows(&mut job.rows[spoilt..], &denominator, &numerators);
+    for row in 0..job.rows.len() {
+        let is_root = value_at(&denominator, job.rows[row].point, 7) == 0;
+        if is_root && !random.once_in(4) || random.once_in(8) {
+            job.rows[row].put(Mark::Pole);
+        }
+        if job.rows_to_spare() > 0 && random.once_in(3) {
+            job.rows[row].put(Mark::Silent);
+        }
+    }
+    random.shuffle(&mut job.rows);
+    job
+}
+
 /// df for every f, or for one of them and for each other one its own bound.
 fn random_bounds(random: &mut Random, outputs: usize, df: usize) -> Vec<usize> {
     let mut bounds = vec![df; outputs];
@@ -166,7 +190,7 @@ fn random_bounds(random: &mut Random, outputs: usize, df: usize) -> Vec<usize> {
 
 /// The values of a fraction modulo 7, found by search; rows where it has none stay as they are.
 fn fit_rows(rows: &mut [Row], denominator: &[u32], numerators: &[Vec<u32>]) {
-    let value = |polynomial: &[u32], point| outside_checks::layout::value_at(polynomial, point, 7);
+    let value = |polynomial: &[u32], point| value_at(polynomial, point, 7);
     for row in rows {
         let below = value(denominator, row.point);
         for (entry, numerator) in row.values.iter_mut().zip(numerators) {
@@ -179,11 +203,16 @@ fn fit_rows(rows: &mut [Row], denominator: &[u32], numerators: &[Vec<u32>]) {
 }
 
 /// Compares so many random jobs that are wanted and not too large.
-fn compare_random(name: &str, count: usize, is_wanted: fn(&Job) -> bool) -> Counts {
+fn compare_random(
+    name: &str,
+    count: usize,
+    draw: fn(&mut Random) -> Job,
+    is_wanted: fn(&Job) -> bool,
+) -> Counts {
     let mut counts = Counts::default();
     let mut random = Random::new(SEED, count as u64);
     while counts.jobs < count {
-        let job = random_job(&mut random);
+        let job = draw(&mut random);
         if candidates(&job) <= 20_000 && is_wanted(&job) {
             compare(&job, &mut counts);
         }
@@ -194,13 +223,62 @@ fn compare_random(name: &str, count: usize, is_wanted: fn(&Job) -> bool) -> Coun
 
 #[test]
 fn random_small_jobs() {
-    let counts = compare_random("random small jobs", 6000, |_| true);
+    let counts = compare_random("random small jobs", 6000, random_job, |_| true);
     assert!(counts.answered >= 2000 && counts.jobs - counts.answered >= 1000);
 }
 
 #[test]
 fn random_small_jobs_with_bounds_that_differ() {
     let name = "random small jobs with bounds that differ";
-    let counts = compare_random(name, 3000, |job| !job.has_equal_bounds());
+    let counts = compare_random(name, 3000, random_job, |job| !job.has_equal_bounds());
     assert!(counts.answered >= 600 && counts.jobs - counts.answered >= 1000);
+}
+
+#[test]
+fn random_small_jobs_with_poles() {
+    let has_pole = |job: &Job| !job.marked(Mark::Pole).is_empty();
+    let name = "random small jobs with rows that report a pole";
+    let counts = compare_random(name, 6000, random_marked_job, has_pole);
+    assert!(counts.answered >= 1500 && counts.jobs - counts.answered >= 1500);
+    let name = "the same with several outputs";
+    let counts = compare_random(name, 3001, random_marked_job, |job| {
+        job.outputs() > 1 && job.marked(Mark::Pole).len() > 1
+    });
+    assert!(counts.answered >= 300 && counts.jobs - counts.answered >= 1000);
+}
+
+#[test]
+fn random_small_jobs_with_silent_rows() {
+    let name = "random small jobs with silent rows";
+    let counts = compare_random(name, 3002, random_marked_job, |job| {
+        !job.marked(Mark::Silent).is_empty()
+    });
+    assert!(counts.answered >= 600 && counts.jobs - counts.answered >= 600);
+}
+
+/// Every way to mark the rows of the smallest jobs, and of those with a row more, with every value of the others.
+#[test]
+fn all_marks_of_the_smallest_jobs() {
+    let mut counts = Counts::default();
+    // The bound of each f, dg, E, and how many rows more than needed.
+    let bounds: [(&[usize], usize, usize, usize); 11] = [
+        (&[0], 0, 0, 1),
+        (&[0], 1, 0, 1),
+        (&[1], 0, 0, 1),
+        (&[0], 0, 1, 1),
+        (&[1], 1, 0, 1),
+        (&[0], 2, 0, 1),
+        (&[0], 1, 1, 1),
+        (&[0, 0], 0, 0, 1),
+        (&[0, 0], 1, 0, 1),
+        (&[1, 0], 1, 0, 0),
+        (&[0, 0, 0], 1, 0, 0),
+    ];
+    for (numerator_bounds, dg, errors, surplus) in bounds {
+        for_each_marked_job((numerator_bounds, dg, errors), surplus, &mut |job| {
+            compare(job, &mut counts);
+        });
+    }
+    show("all marks and values of the smallest jobs", &counts);
+    assert!(counts.answered >= 5000 && counts.jobs - counts.answered >= 5000);
 }

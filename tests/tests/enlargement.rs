@@ -1,14 +1,14 @@
-//! The enlargement rule of paper 01 (point 5), on pairs of jobs, each handed to a call of its own.
+//! The enlargement rule of paper 01 (point 5), with item 6 of paper 02, on pairs of jobs, each handed to a call of its own.
 
 use hanthuvelo::hex;
 use hanthuvelo::Report;
 use outside_checks::jobs::enlargement::{generate, Pair};
 use outside_checks::jobs::Random;
-use outside_checks::layout::{is_right, packed_row, row_bit, Answer, HeaderForm, Job, Row};
+use outside_checks::layout::{packed_row, row_bit, value_at, Answer, HeaderForm, Job, Mark, Row};
 use outside_checks::{implementations, show, Implementation};
 
 const SEED: u64 = 5;
-const PAIRS: u64 = 12_000;
+const PAIRS: u64 = 16_000;
 
 /// How often each side of the rule was met.
 #[derive(Default)]
@@ -28,6 +28,91 @@ struct Counts {
     own_bound_below: usize,
     own_bound_above: usize,
     differing: usize,
+    marks: MarkCounts,
+}
+
+/// The same of marked rows; but for the first two, where the fraction is the same.
+#[derive(Default)]
+struct MarkCounts {
+    flag_of_smaller: usize,
+    flag_of_larger: usize,
+    both_flags: usize,
+    poles_held: usize,
+    silent_held: usize,
+    silent_lacking: usize,
+    silent_replaced: usize,
+    further_silent: usize,
+    further_silent_at_root: usize,
+    further_poles: usize,
+    further_false_poles: usize,
+    smaller_by_rows: usize,
+}
+
+impl MarkCounts {
+    fn take(&mut self, pair: &Pair, same: bool, denominator: &[u32]) {
+        let (smaller, larger) = (&pair.smaller, &pair.larger);
+        let flags = [smaller, larger].map(|job| job.header == HeaderForm::Flagged);
+        self.flag_of_smaller += usize::from(flags == [true, false]);
+        self.flag_of_larger += usize::from(flags == [false, true]);
+        if !same {
+            return;
+        }
+        self.both_flags += usize::from(flags == [true, true]);
+        self.smaller_by_rows += usize::from(larger.rows.len() < smaller.rows.len());
+        self.poles_held += usize::from(!smaller.marked(Mark::Pole).is_empty());
+        let silent = smaller.marked(Mark::Silent);
+        let (held, gone): (Vec<usize>, Vec<usize>) = silent
+            .into_iter()
+            .partition(|&row| place_in(larger, &smaller.rows[row]).is_some());
+        let has_point = |&row: &usize| {
+            let point = smaller.rows[row].point;
+            larger.rows.iter().any(|other| other.point == point)
+        };
+        self.silent_held += usize::from(!held.is_empty());
+        self.silent_replaced += usize::from(gone.iter().any(has_point));
+        self.silent_lacking += usize::from(!gone.iter().all(has_point));
+        let further = |mark: Mark, is_root: bool| {
+            let mut rows = larger.marked(mark).into_iter();
+            rows.any(|row| {
+                let row = &larger.rows[row];
+                let value = value_at(denominator, row.point, larger.prime());
+                place_in(smaller, row).is_none() && (value == 0) == is_root
+            })
+        };
+        self.further_silent += usize::from(further(Mark::Silent, false));
+        self.further_silent_at_root += usize::from(further(Mark::Silent, true));
+        self.further_poles += usize::from(further(Mark::Pole, true));
+        self.further_false_poles += usize::from(further(Mark::Pole, false));
+    }
+
+    fn lines(&self) -> [(&'static str, usize, usize); 12] {
+        [
+            ("the flag of T alone", self.flag_of_smaller, 300),
+            ("the flag of T' alone", self.flag_of_larger, 300),
+            ("both flags, same fraction", self.both_flags, 1000),
+            ("same, T has reported poles", self.poles_held, 500),
+            ("same, T' holds silent rows of T", self.silent_held, 300),
+            ("same, T' lacks silent rows of T", self.silent_lacking, 200),
+            (
+                "same, silent rows of T speak in T'",
+                self.silent_replaced,
+                200,
+            ),
+            ("same, silent further rows", self.further_silent, 500),
+            (
+                "same, one of them at a root",
+                self.further_silent_at_root,
+                50,
+            ),
+            ("same, further poles told rightly", self.further_poles, 100),
+            (
+                "same, further poles told wrongly",
+                self.further_false_poles,
+                100,
+            ),
+            ("same, T' has fewer rows than T", self.smaller_by_rows, 50),
+        ]
+    }
 }
 
 /// What a call returns and what its area holds afterwards.
@@ -43,23 +128,22 @@ fn call(implementation: Implementation, job: &Job, random: &mut Random) -> Call 
     Call { report, area }
 }
 
+/// The place of a row with the same bytes in a job.
+fn place_in(job: &Job, row: &Row) -> Option<usize> {
+    let bytes = packed_row(row);
+    job.rows.iter().position(|other| packed_row(other) == bytes)
+}
+
 /// The rule's word for the larger job: a row of the smaller job keeps its mark, a further row is
 /// marked where it is wrong for the fraction. Also returns how many further rows are.
 fn word_by_the_rule(pair: &Pair, answer: &Answer) -> (u32, usize) {
-    let place_in_smaller = |row: &Row| {
-        let bytes = packed_row(row);
-        pair.smaller
-            .rows
-            .iter()
-            .position(|other| packed_row(other) == bytes)
-    };
     let is_wrong = |row: &Row| {
         let numerators = answer.numerators.iter().map(Vec::as_slice);
-        !is_right(&answer.denominator, numerators, row, pair.larger.prime())
+        pair.larger.is_wrong(row, &answer.denominator, numerators)
     };
     let (mut word, mut further_wrong) = (0, 0);
     for (place, row) in pair.larger.rows.iter().enumerate() {
-        let marked = match place_in_smaller(row) {
+        let marked = match place_in(&pair.smaller, row) {
             Some(earlier) => answer.word & row_bit(earlier) != 0,
             None => {
                 further_wrong += usize::from(is_wrong(row));
@@ -90,6 +174,10 @@ fn try_pair(implementation: Implementation, pair: &Pair, random: &mut Random, co
         let (smaller, larger) = (hex::text(&smaller), hex::text(&larger));
         format!("{name}, seed {SEED}\nsmaller {smaller}\nlarger {larger}")
     };
+    let speaks = |row: &&Row| pair.smaller.mark(row) != Some(Mark::Silent);
+    let mut speaking = pair.smaller.rows.iter().filter(speaks);
+    let is_held = speaking.all(|row| place_in(&pair.larger, row).is_some());
+    assert!(is_held, "{}", describe());
     let first = call(implementation, &pair.smaller, random);
     if !first.report.is_recovered() {
         return;
@@ -113,6 +201,7 @@ fn try_pair(implementation: Implementation, pair: &Pair, random: &mut Random, co
     let bounds = [pair.smaller.error_bound, pair.larger.error_bound];
     counts.take(pair, same, second.report.is_recovered(), wrong, bounds);
     counts.further_wrong += usize::from(same && further_wrong > 0);
+    counts.marks.take(pair, same, &answer.denominator);
 }
 
 impl Counts {
@@ -130,8 +219,7 @@ impl Counts {
             larger.numerator_bound() < smaller.numerator_bound()
                 || larger.denominator_bound < smaller.denominator_bound,
         );
-        let [first, second] =
-            [smaller, larger].map(|job| usize::from(job.header == HeaderForm::Longer));
+        let [first, second] = [smaller, larger].map(|job| usize::from(job.header.is_longer()));
         self.headers[first][second] += 1;
         let bounds = || {
             larger
@@ -194,16 +282,12 @@ fn the_larger_job_follows_the_rule() {
             );
         }
         let mut text = format!("\nenlargement rule, {}\n", implementation.name);
-        for (name, count, floor) in counts.lines() {
+        let lines = [&counts.lines()[..], &counts.marks.lines()].concat();
+        for (name, count, floor) in &lines {
             text += &format!("{name:<38}{count:>8}  floor {floor:>6}\n");
         }
         show(&text);
-        assert!(
-            counts
-                .lines()
-                .iter()
-                .all(|(_, count, floor)| count >= floor),
-            "too few of a kind"
-        );
+        let is_enough = lines.iter().all(|(_, count, floor)| count >= floor);
+        assert!(is_enough, "too few of a kind");
     }
 }

@@ -45,12 +45,11 @@ fn the_files_of_the_paper_pack_into_its_bytes() {
 #[test]
 fn every_file_has_its_printed_text() {
     let names = names();
-    assert_eq!(names.len(), 16);
-    let has_longer_header = |name: &String| {
-        let job = packed(&format!("{name}.job"));
-        HeaderForm::of(&job) == HeaderForm::Longer
-    };
-    assert!(names.iter().any(has_longer_header));
+    assert_eq!(names.len(), 18);
+    for form in HeaderForm::ALL {
+        let has_form = |name: &String| HeaderForm::of(&packed(&format!("{name}.job"))) == form;
+        assert!(names.iter().any(has_form), "{form:?}");
+    }
     for name in names {
         let text = printed(&packed(&format!("{name}.job")));
         assert_eq!(text, read(&format!("{name}.out")), "{name}");

@@ -1,27 +1,33 @@
-//! Both headers of the same job: where every f has the same bound, all calls say the same of both; where the bounds differ,
-//! the answer within them is that within df, if it meets them.
+//! The headers of the same job: where every f has the same bound, all calls say the same of the short one and of the longer one,
+//! and also of that with the flag, if no row has the numbers of a mark; where the bounds differ, the answer within them is
+//! that within df, if it meets them.
 
 use hanthuvelo::{hex, Report, Written};
+use outside_checks::jobs::trial::TrialCall;
 use outside_checks::jobs::{self, form, judged, trial, Kind};
 use outside_checks::layout::{trimmed, Answer, HeaderForm, Job};
 use outside_checks::{
-    checkers, conclude, implementations, judges, setting, writers, Implementation,
+    checkers, conclude, implementations, judges, setting, writers, Implementation, Writer,
 };
 use std::collections::BTreeMap;
 
 const SEED: u64 = 317;
-const COUNT: u64 = 30_000;
+const COUNT: u64 = 40_000;
 
-/// The bytes of a short header, and what follows it, with the longer header in its place; every f has the bound df.
-fn lengthened(bytes: &[u8]) -> Option<Vec<u8>> {
-    if bytes.len() < 3 || HeaderForm::of(bytes) == HeaderForm::Longer {
-        return None;
+/// The bytes of a short header, and what follows it, with each longer header in its place; every f has the bound df. That with
+/// the flag is left out where it would give a row another meaning.
+fn lengthened(bytes: &[u8]) -> Vec<Vec<u8>> {
+    if bytes.len() < 3 || HeaderForm::of(bytes).is_longer() {
+        return Vec::new();
     }
     let df = u32::from(bytes[1] >> 2 & 31);
     let outputs = u32::from(bytes[0] >> 4 & 3) + 1;
     let bounds: u32 = (0..outputs).map(|output| df << (27 - 5 * output)).sum();
     let first = [bytes[0], bytes[1], bytes[2] | 1];
-    Some([&first[..], &bounds.to_be_bytes(), &bytes[3..]].concat())
+    let with = |flags: u32| [&first[..], &(bounds | flags).to_be_bytes(), &bytes[3..]].concat();
+    let mut longer = vec![with(0), with(0x800)];
+    longer.retain(|bytes| !Job::unpack(bytes).has_marks());
+    longer
 }
 
 /// How often each number was returned, each with a floor.
@@ -54,19 +60,18 @@ fn recovered(implementation: Implementation, job: &[u8], area: &[u8]) -> (Report
 }
 
 #[test]
-fn a_job_is_recovered_alike_under_both_headers() {
+fn a_job_is_recovered_alike_under_all_headers() {
     let mut outcomes = Outcomes::default();
     for index in 0..setting("JOBS", COUNT) {
         let job = jobs::generate(SEED, index);
-        let Some(longer) = lengthened(&job.bytes) else {
-            continue;
-        };
-        for implementation in implementations() {
-            let short = recovered(implementation, &job.bytes, &job.area);
-            let other = recovered(implementation, &longer, &job.area);
-            let describe = || format!("{}\n{}", implementation.name, job.describe());
-            assert_eq!(short, other, "{}\n{}", hex::text(&longer), describe());
-            outcomes.add(short.0.refusal);
+        for longer in lengthened(&job.bytes) {
+            for implementation in implementations() {
+                let short = recovered(implementation, &job.bytes, &job.area);
+                let other = recovered(implementation, &longer, &job.area);
+                let describe = || format!("{}\n{}", implementation.name, job.describe());
+                assert_eq!(short, other, "{}\n{}", hex::text(&longer), describe());
+                outcomes.add(short.0.refusal);
+            }
         }
     }
     let floors = [
@@ -78,73 +83,75 @@ fn a_job_is_recovered_alike_under_both_headers() {
         (7, 100),
         (8, 500),
     ];
-    outcomes.conclude("recovered under both headers", &floors);
+    outcomes.conclude("recovered under all headers", &floors);
 }
 
 #[test]
-fn an_answer_is_judged_alike_under_both_headers() {
+fn an_answer_is_judged_alike_under_all_headers() {
     let mut outcomes = Outcomes::default();
     for index in 0..setting("PAIRS", COUNT) {
         let pair = judged::generate(SEED, index);
-        let Some(longer) = lengthened(&pair.job) else {
-            continue;
-        };
-        for judge in judges() {
-            let short = (judge.judge)(&pair.job, &pair.offered);
-            let other = (judge.judge)(&longer, &pair.offered);
-            assert_eq!(short, other, "{}\n{}", judge.name, pair.describe());
-            // 100 stands for a yes.
-            outcomes.add(if short.is_yes() { 100 } else { short.refusal });
+        for longer in lengthened(&pair.job) {
+            for judge in judges() {
+                let short = (judge.judge)(&pair.job, &pair.offered);
+                let other = (judge.judge)(&longer, &pair.offered);
+                assert_eq!(short, other, "{}\n{}", judge.name, pair.describe());
+                // 100 stands for a yes.
+                outcomes.add(if short.is_yes() { 100 } else { short.refusal });
+            }
         }
     }
     let floors = [(0, 1000), (100, 500), (3, 100), (4, 50), (5, 50), (6, 50)];
-    outcomes.conclude("judged under both headers", &floors);
+    outcomes.conclude("judged under all headers", &floors);
 }
 
 #[test]
-fn a_form_is_checked_alike_under_both_headers() {
+fn a_form_is_checked_alike_under_all_headers() {
     let mut outcomes = Outcomes::default();
     for index in 0..setting("JOBS", COUNT) {
         let job = form::generate(SEED, index);
-        let Some(longer) = lengthened(&job.bytes) else {
-            continue;
-        };
-        for checker in checkers() {
-            let short = (checker.check)(&job.bytes);
-            let other = (checker.check)(&longer);
-            assert_eq!(short, other, "{}\n{}", checker.name, job.describe());
-            outcomes.add(short.refusal);
+        for longer in lengthened(&job.bytes) {
+            for checker in checkers() {
+                let short = (checker.check)(&job.bytes);
+                let other = (checker.check)(&longer);
+                assert_eq!(short, other, "{}\n{}", checker.name, job.describe());
+                outcomes.add(short.refusal);
+            }
         }
     }
     let floors = [(0, 2000), (3, 500), (4, 500), (5, 2000), (6, 2000)];
-    outcomes.conclude("forms checked under both headers", &floors);
+    outcomes.conclude("forms checked under all headers", &floors);
 }
 
-/// The trial jobs differ in the header alone; the area of the longer one has four bytes more.
+/// What a writer returns for both headers, and the areas: the jobs differ in the header alone, and the area of the longer one
+/// has four bytes more.
+fn compare_trials(writer: Writer, call: &TrialCall, longer: &[u8]) -> Written {
+    let write = |header: &[u8], area: &mut [u8]| {
+        (writer.trial)(header, &call.coefficients, call.start, call.spoiled, area)
+    };
+    let (mut area, mut other) = (call.area.clone(), vec![0x5A; 4 + call.area.len()]);
+    let (short, again) = (write(&call.header, &mut area), write(longer, &mut other));
+    let length = short.written as usize;
+    let mut expected = vec![0x5A; other.len()];
+    if short.is_written() {
+        expected[..7].copy_from_slice(longer);
+        expected[7..4 + length].copy_from_slice(&area[3..length]);
+        assert_eq!(again, Written::bytes(short.written + 4));
+    }
+    let fits = other == expected && again.refusal == short.refusal;
+    assert!(fits, "{again:?}\n{}\n{}", writer.name, call.describe());
+    short
+}
+
 #[test]
-fn a_trial_is_written_alike_under_both_headers() {
+fn a_trial_is_written_alike_under_all_headers() {
     let mut outcomes = Outcomes::default();
     for index in 0..setting("CALLS", COUNT) {
         let call = trial::generate(SEED, index);
-        let Some(longer) = lengthened(&call.header) else {
-            continue;
-        };
-        for writer in writers() {
-            let write = |header: &[u8], area: &mut [u8]| {
-                (writer.trial)(header, &call.coefficients, call.start, call.spoiled, area)
-            };
-            let (mut area, mut other) = (call.area.clone(), vec![0x5A; 4 + call.area.len()]);
-            let (short, again) = (write(&call.header, &mut area), write(&longer, &mut other));
-            let length = short.written as usize;
-            let mut expected = vec![0x5A; other.len()];
-            if short.is_written() {
-                expected[..7].copy_from_slice(&longer);
-                expected[7..4 + length].copy_from_slice(&area[3..length]);
-                assert_eq!(again, Written::bytes(short.written + 4));
+        for longer in lengthened(&call.header) {
+            for writer in writers() {
+                outcomes.add(compare_trials(writer, &call, &longer).refusal);
             }
-            let fits = other == expected && again.refusal == short.refusal;
-            assert!(fits, "{again:?}\n{}\n{}", writer.name, call.describe());
-            outcomes.add(short.refusal);
         }
     }
     let written = (0, 5000);
@@ -157,7 +164,7 @@ fn a_trial_is_written_alike_under_both_headers() {
         (9, 200),
         (10, 200),
     ];
-    outcomes.conclude("trials under both headers", &floors);
+    outcomes.conclude("trials under all headers", &floors);
 }
 
 /// The polynomials and the word of a recovered job.
@@ -179,9 +186,11 @@ struct OwnBounds {
 }
 
 impl OwnBounds {
-    /// Compares the answer under the short header with that under the job's own.
+    /// Compares the answer within df for every output with that within each one's own bound.
     fn compare(&mut self, implementation: Implementation, job: &Job) {
-        let within_df = answer(implementation, &job.under(HeaderForm::Short));
+        let mut with_df = job.clone();
+        with_df.numerator_bounds.fill(job.numerator_bound());
+        let within_df = answer(implementation, &with_df);
         let own = answer(implementation, job);
         let has_room = |(f, bound): (&Vec<u32>, &usize)| trimmed(f).len() <= bound + 1;
         let meets = |answer: &Answer| {

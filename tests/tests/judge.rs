@@ -4,7 +4,9 @@
 //! `SEED` and `PAIRS` in the environment take another run.
 
 use hanthuvelo::{hex, Judgement, Report, LONGEST_ANSWER};
-use outside_checks::definition::{answers, faults, for_each_list, for_each_smallest_job, Fault};
+use outside_checks::definition::{
+    answers, faults, for_each_list, for_each_marked_job, for_each_smallest_job, Fault,
+};
 use outside_checks::jobs::judged::{generate, Pair, Tally};
 use outside_checks::jobs::{self, Expected};
 use outside_checks::layout::{row_bit, Answer, Job};
@@ -13,7 +15,7 @@ use outside_checks::{
 };
 
 const SEED: u64 = 4_294_967_291;
-const PAIRS: u64 = 50_000;
+const PAIRS: u64 = 60_000;
 
 /// What every judge says, which must be the same, and as expected.
 fn agreed(judges: &[Judge], pair: &Pair) -> Judgement {
@@ -157,6 +159,16 @@ const SMALLEST: [(&[usize], usize, usize, usize); 11] = [
     (&[0, 1], 0, 0, 211),
 ];
 
+/// The same with marked rows: how many rows more than needed stands before the stride.
+const SMALLEST_MARKED: [(&[usize], usize, usize, usize, usize); 6] = [
+    (&[0], 0, 0, 1, 1),
+    (&[0], 1, 0, 1, 11),
+    (&[1], 0, 0, 1, 13),
+    (&[0], 0, 1, 1, 41),
+    (&[0, 0], 0, 0, 1, 7),
+    (&[0, 0], 1, 0, 0, 11),
+];
+
 /// There is exactly one yes where the job has an answer, to its bytes, and none where it has not.
 #[test]
 fn all_small_offers_for_the_smallest_jobs() {
@@ -171,15 +183,45 @@ fn all_small_offers_for_the_smallest_jobs() {
             }
         });
     }
+    counts.conclude("the smallest jobs");
     let Counts {
         jobs,
         solvable,
         offered,
     } = counts;
-    show(&format!(
-        "all coefficients up to 7 and all words, for the smallest jobs: {jobs} jobs, {solvable} with an answer, {offered} offered\n"
-    ));
     assert!(jobs >= 1200 && solvable >= 600 && jobs - solvable >= 400 && offered > 10_000_000);
+}
+
+/// With marked rows, whatever the words say of rows that report a pole or are silent.
+#[test]
+fn all_small_offers_for_the_smallest_marked_jobs() {
+    let judges = judges();
+    let mut counts = Counts::default();
+    for (bounds, dg, errors, surplus, stride) in SMALLEST_MARKED {
+        let mut number = 0;
+        for_each_marked_job((bounds, dg, errors), surplus, &mut |job| {
+            number += 1;
+            if number % stride == 0 {
+                judge_all_small(&judges, job, &mut counts);
+            }
+        });
+    }
+    counts.conclude("the smallest marked jobs");
+    let Counts { jobs, solvable, .. } = counts;
+    assert!(jobs >= 150 && solvable >= 50 && jobs - solvable >= 80);
+}
+
+impl Counts {
+    fn conclude(&self, name: &str) {
+        let Counts {
+            jobs,
+            solvable,
+            offered,
+        } = self;
+        show(&format!(
+            "all coefficients up to 7 and all words, for {name}: {jobs} jobs, {solvable} with an answer, {offered} offered\n"
+        ));
+    }
 }
 
 #[test]

@@ -1,9 +1,10 @@
-//! The examples of paper 01, and those of the longer header, against every implementation.
+//! The examples of paper 01, and those of the longer header and of marked rows, against every implementation.
 
 use hanthuvelo::{hex, Form, Judgement, Report, Written};
 use outside_checks::layout::{HeaderForm, Job};
 use outside_checks::paper::{
-    Example, BOUNDS_PRINTED, EXAMPLES, H1_PRINTED, LONGER, LONGER_REFUSALS, NOT_ANSWERS, REFUSALS,
+    Example, BOUNDS_PRINTED, EXAMPLES, H1_PRINTED, LONGER, LONGER_REFUSALS, MARKS, MARKS_REFUSALS,
+    NOT_ANSWERS, NOT_ANSWERS_WITH_MARKS, POLE_PRINTED, REFUSALS,
 };
 use outside_checks::second;
 use outside_checks::{checkers, implementations, judges, writers, Implementation};
@@ -46,51 +47,53 @@ fn the_refusals_of_the_table() {
 }
 
 #[test]
-fn the_examples_of_the_longer_header() {
+fn the_examples_of_the_longer_header_and_of_marked_rows() {
     for implementation in implementations() {
-        for example in &LONGER {
+        for example in LONGER.iter().chain(&MARKS) {
             try_example(implementation, example, 0);
             try_example(implementation, example, SURPLUS);
         }
-        for example in &LONGER_REFUSALS {
+        for example in LONGER_REFUSALS.iter().chain(&MARKS_REFUSALS) {
             try_example(implementation, example, 0);
         }
     }
 }
 
 /// Every example of paper 01 of three bytes or more, but for the one of refusal 2, is answered alike under the longer
-/// header with equal bounds.
+/// header with equal bounds, with the flag and without.
 #[test]
 fn the_examples_of_the_paper_under_the_longer_header() {
     let mut count = 0;
     for example in EXAMPLES.iter().chain(&REFUSALS) {
         let job = paper_bytes(example.job);
-        if job.len() < 3 || HeaderForm::of(&job) == HeaderForm::Longer {
+        if job.len() < 3 || HeaderForm::of(&job).is_longer() {
             continue;
         }
         let header = Job::unpack(&job[..3]);
-        let mut longer = job.clone();
-        longer[2] |= 1;
-        let bounds = header.under(HeaderForm::Longer).packed_header();
-        longer.splice(3..3, bounds[3..].iter().copied());
-        for implementation in implementations() {
-            let mut area = vec![0xA5; example.area_length];
-            let mut expected = area.clone();
-            let answer = paper_bytes(example.answer);
-            expected[..answer.len()].copy_from_slice(&answer);
-            let report = (implementation.recover)(&longer, &mut area);
-            let name = format!("{} by {}", example.name, implementation.name);
-            assert_eq!((report, area), (example.report, expected), "{name}");
+        for form in [HeaderForm::Longer, HeaderForm::Flagged] {
+            let mut longer = job.clone();
+            longer[2] |= 1;
+            let bounds = header.under(form).packed_header();
+            longer.splice(3..3, bounds[3..].iter().copied());
+            for implementation in implementations() {
+                let mut area = vec![0xA5; example.area_length];
+                let mut expected = area.clone();
+                let answer = paper_bytes(example.answer);
+                expected[..answer.len()].copy_from_slice(&answer);
+                let report = (implementation.recover)(&longer, &mut area);
+                let name = format!("{} by {}", example.name, implementation.name);
+                assert_eq!((report, area), (example.report, expected), "{name}");
+            }
+            count += 1;
         }
-        count += 1;
     }
-    assert_eq!(count, EXAMPLES.len() + REFUSALS.len() - 2);
+    assert_eq!(count, 2 * (EXAMPLES.len() + REFUSALS.len() - 2));
 }
 
-/// Each of the twelve flags alone, with H1's job.
+/// Each of the twelve flags but the first alone, with H1's job.
 #[test]
-fn every_flag_is_refused() {
-    for flag in 0..12 {
+fn every_other_flag_is_refused() {
+    for flag in 0..11 {
         let mut job = paper_bytes(LONGER[0].job);
         job[5] |= (1u16 << flag).to_be_bytes()[0];
         job[6] |= (1u16 << flag).to_be_bytes()[1];
@@ -146,6 +149,12 @@ fn the_example_of_bounds_is_a_trial_job() {
                 writer.name
             );
         }
+        // The flag stays in the header, and a trial has no marks.
+        let mut flagged = job.clone();
+        flagged[5] |= 8;
+        let written = (writer.trial)(&flagged[..7], &answer[4..], 0, 0, &mut area);
+        assert_eq!(written, Written::bytes(39), "{}", writer.name);
+        assert_eq!(area[..39], flagged, "{}", writer.name);
         let mut flagged = job[..8].to_vec();
         flagged[6] = 1;
         assert_eq!(refusal(&flagged[..7], &answer[4..], 39), 11);
@@ -162,7 +171,7 @@ fn paper_bytes(text: &str) -> Vec<u8> {
 }
 
 fn example(name: &str) -> &'static Example {
-    let mut all = EXAMPLES.iter().chain(&LONGER);
+    let mut all = EXAMPLES.iter().chain(&LONGER).chain(&MARKS);
     let found = all.find(|example| example.name == name);
     found.expect("an example")
 }
@@ -171,7 +180,7 @@ fn example(name: &str) -> &'static Example {
 #[test]
 fn the_answers_of_the_examples_are_judged() {
     for judge in judges() {
-        let all = EXAMPLES.iter().chain(&LONGER);
+        let all = EXAMPLES.iter().chain(&LONGER).chain(&MARKS);
         let answered = all.filter(|each| !each.answer.is_empty());
         for example in answered {
             let name = format!("{} by {}", example.name, judge.name);
@@ -184,7 +193,7 @@ fn the_answers_of_the_examples_are_judged() {
                 assert_eq!(judged, Judgement::refused(3, 0), "{name}");
             }
         }
-        for (name, offered) in NOT_ANSWERS {
+        for (name, offered) in NOT_ANSWERS.into_iter().chain(NOT_ANSWERS_WITH_MARKS) {
             let job = paper_bytes(example(name).job);
             let judged = (judge.judge)(&job, &paper_bytes(offered));
             let name = format!("{name} {offered} by {}", judge.name);
@@ -209,21 +218,19 @@ fn an_answer_has_each_outputs_own_bound() {
     }
 }
 
-/// Refusals 1, 11 and 3 to 6 are the job's, whatever is offered; 7 and 8 do not occur.
+/// Refusals 1, 11, 3 to 5, 12 and 6 are the job's, whatever is offered; 7 and 8 do not occur.
 #[test]
 fn the_refusals_of_the_table_are_those_of_a_judgement() {
     for judge in judges() {
         let all = REFUSALS.iter().chain([example("H11")]);
-        for example in all.chain(&LONGER_REFUSALS) {
+        for example in all.chain(&LONGER_REFUSALS).chain(&MARKS_REFUSALS) {
             let (job, report) = (paper_bytes(example.job), example.report);
-            let needed = match example.name {
-                "7 by each bound" => 12,
-                _ => 8,
-            };
             for length in [0, 7, 8, 9, 12, 14, 254] {
                 let judged = (judge.judge)(&job, &vec![0; length]);
                 let expected = match (report.refusal, length) {
-                    (7 | 8, length) if length == needed => Judgement::judged(false),
+                    (7 | 8, length) if length == Job::unpack(&job).answer_length() => {
+                        Judgement::judged(false)
+                    }
                     (7 | 8, _) => Judgement::refused(3, 0),
                     (number, _) => Judgement::refused(number, report.row),
                 };
@@ -235,15 +242,17 @@ fn the_refusals_of_the_table_are_those_of_a_judgement() {
     }
 }
 
-/// Refusals 1, 11 and 3 to 6 are found by a check of the form alone; other jobs have theirs.
+/// Refusals 1, 11, 3 to 5, 12 and 6 are found by a check of the form alone; other jobs have theirs.
 #[test]
 fn the_form_of_each_example_is_checked() {
     for checker in checkers() {
         let longer = LONGER.iter().chain(&LONGER_REFUSALS);
-        for example in EXAMPLES.iter().chain(&REFUSALS).chain(longer) {
+        let marks = MARKS.iter().chain(&MARKS_REFUSALS);
+        let all = EXAMPLES.iter().chain(&REFUSALS);
+        for example in all.chain(longer).chain(marks) {
             let expected = match example.report {
                 Report {
-                    refusal: number @ (1..=6 | 11),
+                    refusal: number @ (1..=6 | 11 | 12),
                     row,
                     ..
                 } => Form::refused(number, row),
@@ -271,6 +280,8 @@ fn the_printed_text_of_the_second_solver() {
     assert_eq!(printed("H1 longer"), H1_PRINTED);
     assert_eq!(printed("bounds 2, 0, 1"), BOUNDS_PRINTED);
     assert_eq!(printed("bounds 1, 0"), "refused 8 0\n");
+    assert_eq!(printed("two outputs and a pole"), POLE_PRINTED);
+    assert_eq!(printed("8, two poles"), "refused 8 0\n");
     assert_eq!(second::printed(&[0; 314]), "refused 3 0\n");
     assert_eq!(second::printed(&[0; 318]), "refused 3 0\n");
     assert_eq!(second::printed(&[1; 6]), "refused 1 0\n");

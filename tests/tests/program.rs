@@ -5,7 +5,8 @@ use hanthuvelo::hex;
 use outside_checks::jobs::{generate, Random};
 use outside_checks::layout::HeaderForm;
 use outside_checks::paper::{
-    BOUNDS_PRINTED, EXAMPLES, H1_PRINTED, LONGER, LONGER_REFUSALS, REFUSALS,
+    BOUNDS_PRINTED, EXAMPLES, H1_PRINTED, LONGER, LONGER_REFUSALS, MARKS, MARKS_REFUSALS,
+    POLE_PRINTED, REFUSALS,
 };
 use outside_checks::program::{run, run_redirected, run_unread};
 use outside_checks::second::printed;
@@ -32,13 +33,16 @@ fn compare(pieces: &[&[u8]]) -> String {
 #[test]
 fn the_papers_examples() {
     let longer = LONGER.iter().chain(&LONGER_REFUSALS);
-    for example in EXAMPLES.iter().chain(&REFUSALS).chain(longer) {
+    let marks = MARKS.iter().chain(&MARKS_REFUSALS);
+    let all = EXAMPLES.iter().chain(&REFUSALS);
+    for example in all.chain(longer).chain(marks) {
         compare(&[&hex::bytes(example.job).expect("the paper's job")]);
     }
     let printed = [
         (&EXAMPLES[0], H1_PRINTED),
         (&LONGER[0], H1_PRINTED),
         (&LONGER[1], BOUNDS_PRINTED),
+        (&MARKS[0], POLE_PRINTED),
     ];
     for (example, text) in printed {
         let job = hex::bytes(example.job).expect("an example's job");
@@ -125,7 +129,7 @@ fn inputs_around_the_longest() {
             let mut longer = job.clone();
             longer.resize(length + surplus, 0);
             assert_eq!(compare(&[&longer]), "refused 3 0\n");
-            // A flag, in the first row where the spare bit was 0: refused with 2 by paper 01.
+            // The last flag, in the first row where the spare bit was 0: refused with 2 by paper 01.
             longer[2] |= 1;
             longer[6] |= 1;
             assert_eq!(compare(&[&longer]), "refused 11 0\n");

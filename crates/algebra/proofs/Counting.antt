@@ -26,6 +26,10 @@ dec-and (yes a) (yes b) = yes (a, b)
 dec-and (yes a) (no n) = no (λ t. n (t .1))
 dec-and (no n) c = no (λ t. n (t .0))
 
+pub dec-not : {A : Type 0} → Dec A → Dec (A → ⊥)
+dec-not (yes a) = no (λ n. n a)
+dec-not (no n) = yes n
+
 -- one more, unless A holds
 countUnless : {A : Type 0} → Dec A → ℕ → ℕ
 countUnless (yes _) n = n
@@ -70,6 +74,16 @@ failures-and p q (suc m) = add (p m) (q m) _ _ _ (failures-and p q m)
     add (yes a) (no b) i j k l = omega arith
     add (no a) (yes b) i j k l = omega arith
     add (no a) (no b) i j k l = omega arith
+
+-- each number fails a property or its negation
+pub failures-not : {P : ℕ → Type 0} (p : (l : ℕ) → Dec (P l)) (m : ℕ) → failures p m + failures (λ l. dec-not (p l)) m ≡ m
+unfolding failures countUnless dec-not
+failures-not p zero = refl
+failures-not p (suc m) = add (p m) _ _ (failures-not p m)
+  where
+    add : {A : Type 0} (a : Dec A) (i j : ℕ) → i + j ≡ m → countUnless a i + countUnless (dec-not a) j ≡ suc m
+    add (yes a) i j e = omega arith
+    add (no a) i j e = omega arith
 
 -- where one property gives another
 pub failures-le : {P Q : ℕ → Type 0} (p : (l : ℕ) → Dec (P l)) (q : (l : ℕ) → Dec (Q l)) (m : ℕ) → ((l : ℕ) → l < m → P l → Q l) → failures q m ≤ failures p m

@@ -2,13 +2,13 @@
 -- are not null can be cancelled, and units are constants.
 use mathlib.Core.Path.{_≡_, sym, _∙_, ap}
 use mathlib.Core.Logic.{_≢_, _⊎_, inl, inr}
-use Prim.Native.Nat.{ℕ, zero, suc, _+_, _<_}
+use Prim.Native.Nat.{ℕ, zero, suc, _+_, _-_, _<_}
 use native.Mathlib.Omega.{arith}
 use native.Mathlib.Nat.{suc-add, zero-add}
 use native.Mathlib.Decide.{decLt}
 use Rattle.algebra.proofs.Ring.{Ring, add-null, null-add, mul-null, mul-add, mul-neg, add-neg, sub-null}
 use Rattle.algebra.proofs.Series.{Series, tail, addS, negS, nullS, constS, mulS, mulS-zero, mulS-suc, nullS-at, constS-zero, null-mulS-at, mulS-null, seriesRing}
-use Rattle.algebra.proofs.Bounds.{Below, below-tail, below-zero, below-constS, drop-top, Polynomial}
+use Rattle.algebra.proofs.Bounds.{Below, below-mono, below-tail, below-zero, below-constS, drop-top, Polynomial}
 use Rattle.algebra.proofs.Field.{Field, nonzero-mul, no-zero-divisors}
 
 module _ (F : Field) where
@@ -56,13 +56,17 @@ module _ (F : Field) where
           absurd (nonzero-mul F (f a) (g b) (df .top) (dg .top)
           (sym (top-mul f g a b (df .low) (dg .low)) ∙ bound (a + b) (omega arith)))
 
-  -- a bound of a product bounds its factors
-  pub factor-below : (f g : Series R) (a n : ℕ) → HasDegree f a → Polynomial R g → Below R (mulS R f g) n → Below R g n
-  factor-below f g a n df pg bound = by-degree (degree (pg .0) g (pg .1))
+  -- a bound of a product, less the degree of one factor, bounds the other
+  pub cofactor-below : (f g : Series R) (a n : ℕ) → HasDegree f a → Polynomial R g → Below R (mulS R f g) n → Below R g (n - a)
+  cofactor-below f g a n df pg bound = by-degree (degree (pg .0) g (pg .1))
     where
-      by-degree : NullOrDegree (pg .0) g → Below R g n
+      by-degree : NullOrDegree (pg .0) g → Below R g (n - a)
       by-degree (inl e) k l = ap (λ t. t k) e ∙ nullS-at R k
       by-degree (inr t) k l = t .1 .low k (let s = degree-sum f g a (t .0) n df (t .1) bound in omega arith)
+
+  -- a bound of a product bounds its factors
+  pub factor-below : (f g : Series R) (a n : ℕ) → HasDegree f a → Polynomial R g → Below R (mulS R f g) n → Below R g n
+  factor-below f g a n df pg bound = below-mono R g (n - a) n (omega arith) (cofactor-below f g a n df pg bound)
 
   pub dec-null : (n : ℕ) (h : Series R) → Below R h n → Dec (h ≡ nullS R)
   dec-null n h b = by-degree (degree n h b)

@@ -2,7 +2,7 @@
 use mathlib.Core.Path.{_≡_, sym, _∙_, ap, fun-ext}
 use mathlib.Core.Logic.{_≢_, _⊎_, inl, inr}
 use Prim.Native.Nat.{ℕ, zero, suc}
-use Rattle.algebra.proofs.Ring.{Ring, mul-comm, mul-assoc, one-mul, null-add, mul-null, null-mul}
+use Rattle.algebra.proofs.Ring.{Ring, ring, mul-comm, mul-assoc, one-mul, null-add, mul-null, null-mul, sub-null}
 use Rattle.algebra.proofs.Series.{Series, tail, nullS, mulS, mulS-zero, mulS-suc, mulS-suc-right}
 use Rattle.algebra.proofs.Bounds.{Below, below-tail, below-zero}
 
@@ -16,10 +16,11 @@ pub record Field : Type 1 where
 
 module _ (F : Field) where
   open Field F using (ring as R, dec, inv, inv-mul)
-  open Ring R using (Carrier, add as _⊕_, mul as _⊗_, null, one)
+  open Ring R using (Carrier, add as _⊕_, mul as _⊗_, neg as ⊖_, null, one)
 
   infixl 60 _⊕_
   infixl 70 _⊗_
+  infix 80 ⊖_
   pub cancel : (a b : Carrier) → a ≢ null → a ⊗ b ≡ null → b ≡ null
   cancel a b n e =
       let i = inv a n in
@@ -28,6 +29,23 @@ module _ (F : Field) where
 
   pub nonzero-mul : (a b : Carrier) → a ≢ null → b ≢ null → a ⊗ b ≢ null
   nonzero-mul a b na nb e = nb (cancel a b na e)
+
+  -- a condition c a = b y leaves one proportion of a and b, unless c and y are both null
+  pub one-proportion : (c y a b a' b' : Carrier) → c ⊗ a ≡ b ⊗ y → c ⊗ a' ≡ b' ⊗ y → ((c ≡ null) × (y ≡ null) → ⊥) → a ⊗ b' ≡ a' ⊗ b
+  one-proportion c y a b a' b' e e' asks = by-weight (dec c null)
+    where
+      multiplied : c ⊗ (a ⊗ b' ⊕ ⊖ (a' ⊗ b)) ≡ (c ⊗ a) ⊗ b' ⊕ ⊖ ((c ⊗ a') ⊗ b)
+      multiplied = simp ring
+
+      difference : (c ⊗ a) ⊗ b' ⊕ ⊖ ((c ⊗ a') ⊗ b) ≡ null
+      difference = rw (e, e') (simp ring)
+
+      vanishes : (a b : Carrier) → c ≡ null → c ⊗ a ≡ b ⊗ y → b ≡ null
+      vanishes a b z e = cancel y b (λ w. asks (z, w)) (mul-comm R y b ∙ sym e ∙ ap (λ t. t ⊗ a) z ∙ null-mul R a)
+
+      by-weight : Dec (c ≡ null) → a ⊗ b' ≡ a' ⊗ b
+      by-weight (yes z) = rw (vanishes a b z e, vanishes a' b' z e') (simp ring)
+      by-weight (no nz) = sub-null R _ _ (cancel c _ nz (multiplied ∙ difference))
 
   -- a series whose constant term is not null is no zero divisor
   cancel-unit : (f g : Series R) → f zero ≢ null → ((k : ℕ) → mulS R f g k ≡ null) → (k : ℕ) → g k ≡ null

@@ -24,7 +24,7 @@ module _ (F : Field) where
   Distinct x m = (i j : ℕ) → i < j → j < m → x i ≢ x j
 
   -- at how many of x 0 .. x (m - 1) the value of h's first N coefficients is not null
-  abbrev nonzeros : ℕ → Series R → (ℕ → Carrier) → ℕ → ℕ
+  abbrev pub nonzeros : ℕ → Series R → (ℕ → Carrier) → ℕ → ℕ
   nonzeros N h x m = failures (λ l. dec (value R N h (x l)) null) m
 
   -- h at y by its quotient at a root x
@@ -42,7 +42,7 @@ module _ (F : Field) where
   nonzeros-quotient n h root x m b e apart =
       failures-le _ _ m (λ l h' z. cancel F _ _ (λ w. apart l h' (sub-null R (x l) root w)) (sym (value-quotient n h root (x l) b e) ∙ z))
 
-  root-bound : (x : ℕ → Carrier) (m n : ℕ) (h : Series R) → Below R h n → Distinct x m → h ≢ nullS R
+  pub root-bound : (x : ℕ → Carrier) (m n : ℕ) (h : Series R) → Below R h n → Distinct x m → h ≢ nullS R
       → m < n + nonzeros n h x m
   root-bound x m zero h b d nz = absurd (nz (below-zero R h b))
   root-bound x zero (suc n) h b d nz = omega arith

@@ -1,12 +1,17 @@
 // docs/METHOD.md, section 2: the outputs one after the other. After each one the candidate holds the only fractions, over their common denominator,
 // that an answer can have there; or it is known that there is no answer.
 ghost use Rattle.format.specs.Bounds.{Sized, primeOf};
-ghost use Prim.Native.Nat.{_<_};
+ghost use Prim.Native.Nat.{_+_, _-_, _<_};
 ghost use mathlib.Core.Path.{_≡_};
 ghost use Rattle.evaluation.specs.Values.{formsOf};
 ghost use Rattle.extension.specs.Extensions.{Fitting};
-ghost use Rattle.candidate.specs.Candidates.{startCandidate, nextOf, candidateAfter, Table};
+ghost use Rattle.poly.specs.Coefficients.{Bounded};
+ghost use Rattle.pairs.specs.Pairs.{PairBounded};
+ghost use Rattle.column.specs.Columns.{columnOf};
+ghost use Rattle.candidate.specs.Candidates.{startCandidate, pairOf, nextOf, candidateAfter, Table};
 use format::Bounds;
+use pairs::Pair;
+use poly::Poly;
 use vector::Candidate;
 
 fn start() -> Candidate
@@ -22,25 +27,58 @@ fn start() -> Candidate
     }
 }
 
-// One output more. Beside the points stand their forms xs.
-fn next(
+fn less(a: usize, b: usize) -> usize
+    ensures { λ r. ⌜ r ≡ a - b ⌝ }
+{
+    if a < b {
+        return 0;
+    }
+    a - b
+}
+
+// The pair of polynomials for output i over the denominator g. Beside the points stand their forms xs. Rows that ask nothing of the output do not
+// count: silent ones, and those that report a pole where g is 0 already.
+fn pair(
     b: Bounds,
+    speaking: usize,
     points: &[u32; 32],
     xs: &[u16; 32],
+    weights: &[u16; 32],
+    values: &[u32; 128],
+    i: usize,
+    g: Poly,
+) -> Pair
+    requires { ⌜ Sized b × Table b speaking (now points) (now weights) × (now xs ≡ formsOf (primeOf b) (now points) (b .rows))
+        × Bounded (primeOf b) (b .dg + 1) (g .c) × (i < 4) ⌝ }
+    ensures { λ r. ⌜ (r ≡ pairOf b speaking (now (points .entry)) (now (weights .entry)) (columnOf b (now (points .entry)) (now (values .entry)) i (g .c)))
+        × PairBounded (primeOf b) (b .rows + 1) r ⌝ }
+{
+    let prime = b.prime;
+    let bound_a = speaking - 1 - (b.dg + b.errors);
+    let right = column::column(b, xs, weights, values, i, g);
+    let z = right.z;
+    let bound_b = less(right.active, bound_a + 1);
+    interpolation::solution(prime, points, xs, weights, &z, b.rows, bound_a, bound_b)
+}
+
+// One output more.
+fn next(
+    b: Bounds,
+    speaking: usize,
+    points: &[u32; 32],
+    xs: &[u16; 32],
+    weights: &[u16; 32],
     values: &[u32; 128],
     i: usize,
     c: Candidate,
 ) -> Candidate
-    requires { ⌜ Sized b × Table b (now points) × (now xs ≡ formsOf (primeOf b) (now points) (b .rows)) × Fitting b c × (i < 4) ⌝ }
-    ensures { λ r. ⌜ (r ≡ nextOf b (now (points .entry)) (now (values .entry)) i c) × Fitting b r ⌝ }
+    requires { ⌜ Sized b × Table b speaking (now points) (now weights) × (now xs ≡ formsOf (primeOf b) (now points) (b .rows)) × Fitting b c × (i < 4) ⌝ }
+    ensures { λ r. ⌜ (r ≡ nextOf b speaking (now (points .entry)) (now (weights .entry)) (now (values .entry)) i c) × Fitting b r ⌝ }
 {
     let prime = b.prime;
     let rows = b.rows;
     let g = c.g;
-    let slack = b.dg + b.errors;
-    let right = column::column(b, xs, values, i, g);
-    let z = right.z;
-    let s = interpolation::solution(prime, points, xs, &z, rows, rows - 1 - slack, slack);
+    let s = pair(b, speaking, points, xs, weights, values, i, g);
     let phi = s.a;
     let psi = s.b;
     if poly::length(rows + 1, psi) == 0 {
@@ -52,10 +90,16 @@ fn next(
     extension::extended(b, c, i, rows + 1, numerator, denominator)
 }
 
-// All outputs.
-pub fn after_outputs(b: Bounds, points: [u32; 32], values: [u32; 128]) -> Candidate
-    requires { ⌜ Sized b × Table b points ⌝ }
-    ensures { λ r. ⌜ (r ≡ candidateAfter b points values (b .outputs)) × Fitting b r ⌝ }
+// All outputs. So many rows speak.
+pub fn after_outputs(
+    b: Bounds,
+    speaking: usize,
+    points: [u32; 32],
+    weights: [u16; 32],
+    values: [u32; 128],
+) -> Candidate
+    requires { ⌜ Sized b × Table b speaking points weights ⌝ }
+    ensures { λ r. ⌜ (r ≡ candidateAfter b speaking points weights values (b .outputs)) × Fitting b r ⌝ }
 {
     let n = b.outputs;
     let prime = b.prime;
@@ -64,7 +108,7 @@ pub fn after_outputs(b: Bounds, points: [u32; 32], values: [u32; 128]) -> Candid
     let mut c = start();
     for i in 0..n {
         if c.solvable {
-            c = next(b, &points, &xs, &values, i, c);
+            c = next(b, speaking, &points, &xs, &weights, &values, i, c);
         }
     }
     c

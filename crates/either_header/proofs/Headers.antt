@@ -1,6 +1,6 @@
 -- What the two headers of the same job say is the same, and so are the rows behind them.
-use Prim.Native.Nat.{ℕ, zero, suc, _+_, _-_, _*_, _≤_, _<_}
-use mathlib.Core.Bool.{Bool, true, false, cond, not, _&&_, _||_}
+use Prim.Native.Nat.{ℕ, _+_, _-_, _*_, _≤_, _<_}
+use mathlib.Core.Bool.{false, cond, not, _&&_}
 use mathlib.Core.List.{List}
 use mathlib.Core.Logic.{_⊎_, inl, inr}
 use mathlib.Core.Path.{_≡_, refl, sym, ap, ap₂, fun-ext, _∙_}
@@ -12,25 +12,22 @@ use lib.ListN.{length, getD, length-drop}
 use lib.Seq.{getD-drop}
 use Rattle.lists.proofs.Order.{lt-or-ge}
 use Rattle.lists.proofs.Tabulated.{tabulate-cong}
-use Rattle.field.specs.Primes.{modulusOf, primeOfCode}
-use Rattle.format.specs.declared.Reason.the-variants.{OutOfRange, RepeatedPoint, AreaTooShort}
-use Rattle.format.specs.declared.Outcome.{Outcome}
-use Rattle.format.specs.declared.Outcome.the-variants.{Accepted}
-use Rattle.format.specs.Bounds.{numeratorBoundOf, largestBound, answerLengthOf}
-use Rattle.format.specs.Numbers.{numberFrom}
+use Rattle.field.specs.Primes.{primeOfCode}
+use Rattle.format.specs.Bounds.{numeratorBoundOf, largestBound}
 use Rattle.format.specs.declared.Bounds.{Bounds}
 use Rattle.format.proofs.Sizes.{largest-above, largest-most}
-use Rattle.cursor.specs.Bits.{bitOf, fieldOf}
+use Rattle.cursor.specs.Bits.{fieldOf}
 use Rattle.cursor.proofs.Fields.{field-cong}
-use Rattle.header.specs.Header.{outputsOf, dfOf, spareBitOf, headerLengthOf, numeratorBoundsOf, flagsOf, boundsOf, headerOf, jobLengthOf, rowsNeededOf}
+use Rattle.header.specs.Header.{outputsOf, dfOf, headerLengthOf, numeratorBoundsOf, flagsOf, marksAllowed, boundsOf, headerOf, jobLengthOf}
 use Rattle.header.proofs.Fields.{narrow, bound-at}
-use Rattle.header_rules.specs.Rules.{tooShort, boundsAbsent, addedHeaderBroken}
-use Rattle.header_rules.proofs.Rules.{short-unbroken}
-use Rattle.row_search.specs.Search.{isFound, ifHolds, firstBelow, anyBelow}
+use Rattle.header_rules.specs.Rules.{boundsAbsent}
+use Rattle.row_search.specs.Search.{isFound}
 use Rattle.row_search.proofs.FirstBelow.{none-below}
 use Rattle.rows.specs.Rows.{numberAt}
-use Rattle.job.specs.Refusals.{byteCountDiffers, tooFewRows, refuse, outcomeOfRows, outcomeOf}
+use Rattle.job.specs.Refusals.{byteCountDiffers, tooFewRows, outcomeOf}
 use Rattle.either_header.specs.EitherHeader.{SameJob}
+use Rattle.either_header.specs.Unflagged.{plainRowTests, item5Broken, item5Outcome, Unflagged}
+use Rattle.either_header.proofs.Unflagged.{unflagged, short-unset}
 
 eqb-plus : (a b k : ℕ) → eqb (a + k) (b + k) ≡ eqb a b
 eqb-plus a b k = by (ℕ-discrete a b)
@@ -38,14 +35,6 @@ eqb-plus a b k = by (ℕ-discrete a b)
     by : Dec (a ≡ b) → eqb (a + k) (b + k) ≡ eqb a b
     by (yes e) = eq-eqb _ _ (ap (λ (x : ℕ). x + k) e) ∙ sym (eq-eqb _ _ e)
     by (no e) = ne-eqb (a + k) (b + k) (λ (h : a + k ≡ b + k). e (omega arith)) ∙ sym (ne-eqb a b e)
-
--- tests 5 to 7, from the bounds and the numbers of the rows
-abbrev rowTests : Bounds → (ℕ → ℕ → ℕ) → ℕ → Outcome
-rowTests b n room =
-    refuse OutOfRange
-    (firstBelow (b .rows) (λ r. leb (modulusOf (b .prime)) (n r 0) || anyBelow (b .outputs) (λ i. leb (modulusOf (b .prime)) (n r (1 + i)))))
-    (refuse RepeatedPoint (firstBelow (b .rows) (λ r. anyBelow r (λ q. eqb (n q 0) (n r 0))))
-    (refuse AreaTooShort (ifHolds (ltb room (answerLengthOf b)) 0) Accepted))
 
 module _ (s s' : List ℕ) (J : SameJob s s') where
   field-same : (at bits : ℕ) → at + bits ≤ 23 → fieldOf s' at bits ≡ fieldOf s at bits
@@ -104,8 +93,15 @@ module _ (s s' : List ℕ) (J : SameJob s s') where
   unfolding flagsOf
   no-flags = rw (J .longer .1) (J .flags)
 
-  unbroken : addedHeaderBroken s' ≡ false
+  unbroken : item5Broken s' ≡ false
   unbroken = rw (J .longer .1, no-flags, bounds-same, none-absent, df-same, eq-eqb _ _ (sym largest-equal)) refl
+
+  -- neither has the first flag bit set
+  pub short-plain : Unflagged s
+  short-plain = unflagged s (short-unset s (J .short .1))
+
+  pub longer-plain : Unflagged s'
+  longer-plain = unflagged s' (ap marksAllowed no-flags)
 
   -- 4 bytes more
   pub length-same : length s' ≡ length s + 4
@@ -136,13 +132,15 @@ module _ (s s' : List ℕ) (J : SameJob s s') where
   few-same : tooFewRows s' ≡ tooFewRows s
   few-same = rw (bounds-same, df-same) refl
 
-  rows-same : (room : ℕ) → outcomeOfRows s' room ≡ outcomeOfRows s room
-  unfolding outcomeOfRows
-  rows-same room = ap₂ (λ (b : Bounds) (n : ℕ → ℕ → ℕ). rowTests b n room) bounds-same numbers-same
+  rows-same : (room : ℕ) → plainRowTests (boundsOf s') (numberAt s') room ≡ plainRowTests (boundsOf s) (numberAt s) room
+  rows-same room = ap₂ (λ (b : Bounds) (n : ℕ → ℕ → ℕ). plainRowTests b n room) bounds-same numbers-same
 
-  pub outcome-same : (room : ℕ) → outcomeOf s' room ≡ outcomeOf s room
-  unfolding outcomeOf
-  outcome-same room =
+  plain-same : (room : ℕ) → item5Outcome s' room ≡ item5Outcome s room
+  plain-same room =
       let long-enough = le-ltb (length s) (headerLengthOf s) (rw (J .short .1) (J .short .0)) in
       let long-enough' = le-ltb (length s') (headerLengthOf s') (rw (J .longer .1) (J .longer .0)) in
-      rw (long-enough, long-enough', unbroken, short-unbroken s (J .short .1), count-same, few-same, rows-same room) refl
+      let short : item5Broken s ≡ false = rw (J .short .1) refl in
+      rw (long-enough, long-enough', unbroken, short, count-same, few-same, rows-same room) refl
+
+  pub outcome-same : (room : ℕ) → outcomeOf s' room ≡ outcomeOf s room
+  outcome-same room = longer-plain .tests room ∙ plain-same room ∙ sym (short-plain .tests room)

@@ -1,3 +1,4 @@
+pub mod Unflagged
 pub mod Headers
 pub mod Alike
 mod Example

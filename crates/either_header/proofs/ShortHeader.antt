@@ -1,24 +1,24 @@
 -- A field of a header is a quotient of its bytes as one number, so a job with the spare bit 0 is read as paper 01 has it.
 use Prim.Native.Nat.{ℕ, zero, suc, _+_, _-_, _*_, _/_, _%_, _^_, _≤_, _<_}
-use mathlib.Core.Bool.{Bool, cond}
 use mathlib.Core.List.{List}
 use mathlib.Core.Logic.{_⊎_, inl, inr}
-use mathlib.Core.Path.{_≡_, refl, sym, ap, _∙_}
+use mathlib.Core.Path.{_≡_, refl, ap, ap₂, fun-ext, _∙_}
 use native.Mathlib.Omega.{arith}
-use lib.Dec.{ltb, eqb}
 use lib.ListN.{getD}
 use Rattle.lists.proofs.Order.{lt-or-ge}
 use Rattle.lists.proofs.Tabulated.{tabulate-cong}
 use Rattle.field.specs.Primes.{primeOfCode}
-use Rattle.format.specs.Numbers.{numberFrom}
+use Rattle.format.specs.declared.Bounds.{Bounds}
 use Rattle.cursor.specs.Bits.{bitOf, fieldOf}
 use Rattle.cursor.proofs.Fields.{first-bit, second-bit, field-of-number}
 use Rattle.header.specs.Header.{outputsOf, dfOf, spareBitOf, numeratorBoundsOf, boundsOf}
-use Rattle.header_rules.proofs.Rules.{short-unbroken}
 use Rattle.row_word.specs.Words.{joinedBytes}
 use Rattle.rows.specs.Rows.{numberAt}
-use Rattle.job.specs.Refusals.{outcomeOfRows, outcomeOf}
-use Rattle.either_header.specs.ShortHeader.{headerNumber, shortOutputs, shortDf, shortBounds, shortTests, ShortHeader}
+use Rattle.job.specs.Refusals.{outcomeOf}
+use Rattle.problem.specs.Answers.{wrongAt}
+use Rattle.either_header.specs.Unflagged.{plainWrong, Unflagged}
+use Rattle.either_header.specs.ShortHeader.{headerNumber, shortOutputs, shortDf, shortBounds, shortNumber, shortOutcome, ShortHeader}
+use Rattle.either_header.proofs.Unflagged.{unflagged, short-unset}
 
 module _ (s : List ℕ) (low : (k : ℕ) → getD s k 0 < 256) where
   -- a bit of the first m bytes as one number
@@ -77,16 +77,26 @@ module _ (s : List ℕ) (low : (k : ℕ) → getD s k 0 < 256) where
       errors = field-short 19 4 (omega arith) i;
     }
 
-    numbers-short : (r c : ℕ) → numberAt s r c ≡ numberFrom s (3 + 2 * (r * (1 + shortOutputs s) + c))
+    numbers-short : numberAt s ≡ shortNumber s
     unfolding numberAt
-    numbers-short r c = rw (spare, bounds-short) refl
+    numbers-short = fun-ext (λ r. fun-ext (λ c. rw (spare, bounds-short) refl))
 
-    tests-short : (area : ℕ) → outcomeOf s area ≡ shortTests s (shortBounds s) (outcomeOfRows s area)
-    unfolding outcomeOf
-    tests-short area = rw (short-unbroken s spare, spare, bounds-short, df-short) refl
+    plain : Unflagged s
+    plain = unflagged s (short-unset s spare)
+
+    tests-short : (area : ℕ) → outcomeOf s area ≡ shortOutcome s (shortBounds s) area
+    tests-short area = plain .tests area ∙ rw (spare, bounds-short, numbers-short, df-short) refl
+
+    wrong-short : (f : ℕ → List ℕ) (g : List ℕ) (r : ℕ) → wrongAt s f g r ≡ plainWrong (shortBounds s) (shortNumber s) f g r
+    wrong-short f g r = plain .wrong f g r ∙ ap₂ (λ (b : Bounds) (n : ℕ → ℕ → ℕ). plainWrong b n f g r) bounds-short numbers-short
 
   pub short-header : headerNumber s % 2 ≡ 0 → ShortHeader s
   unfolding spareBitOf
   short-header even =
       let spare : spareBitOf s ≡ 0 = omega (arith, field-short 23 1 (omega arith)) in
-      record { bounds = bounds-short spare; numbers = numbers-short spare; tests = tests-short spare }
+      record {
+        bounds = bounds-short spare;
+        numbers = λ r c. ap (λ (n : ℕ → ℕ → ℕ). n r c) (numbers-short spare);
+        tests = tests-short spare;
+        wrong = wrong-short spare;
+      }

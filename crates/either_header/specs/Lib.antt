@@ -1,2 +1,3 @@
 pub mod EitherHeader
+pub mod Unflagged
 pub mod ShortHeader

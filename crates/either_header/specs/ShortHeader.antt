@@ -1,7 +1,7 @@
 -- Paper 01's header by itself, where "one spare bit that is 0" ends it: its "24 bits" as one number, most significant bit first, and what a job with
 -- that header says by it.
 use mathlib.Core.Path.{_≡_}
-use mathlib.Core.Bool.{Bool, cond, not}
+use mathlib.Core.Bool.{cond, not}
 use mathlib.Core.List.{List}
 use Prim.Native.Nat.{ℕ, _+_, _*_, _/_, _%_, _^_}
 use lib.Dec.{ltb, eqb}
@@ -15,7 +15,9 @@ use Rattle.format.specs.Numbers.{numberFrom}
 use Rattle.row_search.specs.Search.{ifHolds}
 use Rattle.header.specs.Header.{boundsOf}
 use Rattle.rows.specs.Rows.{numberAt}
-use Rattle.job.specs.Refusals.{refuse, outcomeOfRows, outcomeOf}
+use Rattle.job.specs.Refusals.{refuse, outcomeOf}
+use Rattle.problem.specs.Answers.{wrongAt}
+use Rattle.either_header.specs.Unflagged.{plainRowTests, plainWrong}
 
 abbrev pub headerNumber : List ℕ → ℕ
 headerNumber s = getD s 0 0 * 65536 + getD s 1 0 * 256 + getD s 2 0
@@ -39,15 +41,20 @@ shortBounds s =
       errors = headerNumber s / 2 % 16;
     }
 
--- tests 1, 3 and 4 of paper 01's table, and then what the later ones say
-abbrev pub shortTests : List ℕ → (b : Bounds) → Outcome → Outcome
-shortTests s b later =
+-- the number in row r and column c, where column 0 is the point
+abbrev pub shortNumber : List ℕ → ℕ → ℕ → ℕ
+shortNumber s r c = numberFrom s (3 + 2 * (r * (1 + shortOutputs s) + c))
+
+-- tests 1 and 3 to 7 of paper 01's table
+abbrev pub shortOutcome : (s : List ℕ) (b : Bounds) (area : ℕ) → Outcome
+shortOutcome s b area =
     refuse TooShort (ifHolds (ltb (length s) 3) 0)
     (refuse ByteCount (ifHolds (not (eqb (length s) (3 + 2 * b .rows * (1 + b .outputs)))) 0)
-    (refuse TooFewRows (ifHolds (ltb (b .rows) (shortDf s + b .dg + 2 * b .errors + 1)) 0) later))
+    (refuse TooFewRows (ifHolds (ltb (b .rows) (shortDf s + b .dg + 2 * b .errors + 1)) 0) (plainRowTests b (shortNumber s) area)))
 
 -- a job is read by these alone, as paper 01 has it
 pub record ShortHeader (s : List ℕ) : Type 0 where
   pub bounds : boundsOf s ≡ shortBounds s
-  pub numbers : (r c : ℕ) → numberAt s r c ≡ numberFrom s (3 + 2 * (r * (1 + shortOutputs s) + c))
-  pub tests : (area : ℕ) → outcomeOf s area ≡ shortTests s (shortBounds s) (outcomeOfRows s area)
+  pub numbers : (r c : ℕ) → numberAt s r c ≡ shortNumber s r c
+  pub tests : (area : ℕ) → outcomeOf s area ≡ shortOutcome s (shortBounds s) area
+  pub wrong : (f : ℕ → List ℕ) (g : List ℕ) (r : ℕ) → wrongAt s f g r ≡ plainWrong (shortBounds s) (shortNumber s) f g r

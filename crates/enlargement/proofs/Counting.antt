@@ -1,4 +1,4 @@
--- Two tables of rows, the second holding every row of the first: the bad rows of the second number as many as those of the first and the
+-- Two tables of rows, the second holding every bad row of the first: the bad rows of the second number as many as those of the first and the
 -- further bad ones together.
 use mathlib.Core.Path.{_≡_, refl, sym, _∙_, ap}
 use mathlib.Core.Logic.{_≢_, _⊎_, inl, inr}
@@ -11,7 +11,7 @@ use Rattle.row_search.specs.declared.Found.the-variants.{At, Nothing}
 use Rattle.row_search.specs.Search.{firstBelow, anyBelow, isFound, orElse}
 use Rattle.row_search.proofs.FirstBelow.{none-below}
 use Rattle.word.specs.Word.{flagOf, countBelow}
-use Rattle.word.proofs.Counts.{count-change}
+use Rattle.word.proofs.Counts.{count-same, count-change}
 
 -- one number more, which fails the test, or passes it
 any-more : (n : ℕ) (test : ℕ → Bool) → test n ≡ false → anyBelow (suc n) test ≡ anyBelow n test
@@ -42,45 +42,66 @@ passes-or-none (suc n) test = by (test n) refl (passes-or-none n test)
     by false e (inl t) = inl (t .0, (let l = t .1 in omega arith), t .2)
     by false e (inr none) = inr (any-more n test e ∙ none)
 
+never : (b : Bool) → (b && false) ≡ false
+never true = refl
+never false = refl
+
 -- `same i j` tests whether row i of the first table is row j of the second; bad and bad' test the rows of the tables
 module _ (same : ℕ → ℕ → Bool) (bad bad' : ℕ → Bool) where
-  -- each of the first L rows of the first table is one of the first L' rows of the second; no row stands in a table twice, and a row is
+  -- each bad one of the first L rows of the first table is one of the first L' rows of the second; no row stands in a table twice, and a row is
   -- bad in both tables or in none
   pub record Held (L L' : ℕ) : Type 0 where
-    pub holds : (i : ℕ) → i < L → (j : ℕ) × (j < L') × (same i j ≡ true)
+    pub holds : (i : ℕ) → i < L → bad i ≡ true → (j : ℕ) × (j < L') × (same i j ≡ true)
     pub first : (i k j : ℕ) → i < L → k < L → same i j ≡ true → same k j ≡ true → i ≡ k
     pub second : (k i j : ℕ) → i < L' → j < L' → same k i ≡ true → same k j ≡ true → i ≡ j
-    pub equal : (i j : ℕ) → same i j ≡ true → bad i ≡ bad' j
+    pub equal : (i j : ℕ) → i < L → j < L' → same i j ≡ true → bad i ≡ bad' j
 
   -- row j of the second table is bad, and none of the first k rows of the first
   abbrev pub furtherBad : ℕ → ℕ → Bool
   furtherBad k j = not (anyBelow k (λ i. same i j)) && bad' j
 
   module _ {L L' : ℕ} (H : Held L L') where
-    -- row k of the first table stands at one place of the second
+    -- a bad row k of the first table stands at one place of the second
+    bad-row : (k : ℕ) → k < L → bad k ≡ true → countBelow L' (furtherBad k) ≡ countBelow L' (furtherBad (suc k)) + 1
+    bad-row k l is-bad =
+        let change = count-change (furtherBad k) (furtherBad (suc k)) L' j (place .1) other gone in
+        let one = ap flagOf here in
+        omega arith
+      where
+        place : (j : ℕ) × (j < L') × (same k j ≡ true)
+        place = H .holds k l is-bad
+
+        j : ℕ
+        j = place .0
+
+        other : (m : ℕ) → m < L' → m ≢ j → furtherBad k m ≡ furtherBad (suc k) m
+        other m h ne = ap (λ t. not t && bad' m) (sym (any-more k (λ i. same i m) (never-true _ (λ e. ne (H .second k m j h (place .1) e (place .2))))))
+
+        gone : furtherBad (suc k) j ≡ false
+        gone = ap (λ t. not t && bad' j) (any-here k (λ i. same i j) (place .2))
+
+        here : furtherBad k j ≡ true
+        here = ap (λ t. not (isFound t) && bad' j)
+            (none-below (λ i. same i j) k (λ i h. never-true _ (λ e. let s = H .first i k j (omega arith) l e (place .2) in omega arith)))
+            ∙ sym (H .equal k j l (place .1) (place .2)) ∙ is-bad
+
+    -- and where another one stands, the row there is not bad
+    other-row : (k : ℕ) → k < L → bad k ≡ false → countBelow L' (furtherBad k) ≡ countBelow L' (furtherBad (suc k))
+    other-row k l not-bad = count-same L' (furtherBad k) (furtherBad (suc k)) (λ m h. by m h (same k m) refl)
+      where
+        by : (m : ℕ) → m < L' → (b : Bool) → same k m ≡ b → furtherBad k m ≡ furtherBad (suc k) m
+        by m h true e = let none = sym (H .equal k m l h e) ∙ not-bad in rw none (never (not (anyBelow k (λ i. same i m))) ∙ sym (never (not (anyBelow (suc k) (λ i. same i m)))))
+        by m h false e = ap (λ t. not t && bad' m) (sym (any-more k (λ i. same i m) e))
+
     bad-adds-below : (k : ℕ) → k ≤ L → countBelow L' bad' ≡ countBelow k bad + countBelow L' (furtherBad k)
     unfolding countBelow firstBelow
     bad-adds-below zero l = omega arith
-    bad-adds-below (suc k) l =
-        let before = bad-adds-below k (omega arith) in
-        let change = count-change (furtherBad k) (furtherBad (suc k)) L' j (H .holds k l .1) other gone in
-        let place = ap flagOf here in
-        omega arith
+    bad-adds-below (suc k) l = by (bad k) refl (bad-adds-below k (omega arith))
       where
-        j : ℕ
-        j = H .holds k l .0
-
-        other : (m : ℕ) → m < L' → m ≢ j → furtherBad k m ≡ furtherBad (suc k) m
-        other m h ne = ap (λ t. not t && bad' m)
-            (sym (any-more k (λ i. same i m) (never-true _ (λ e. ne (H .second k m j h (H .holds k l .1) e (H .holds k l .2))))))
-
-        gone : furtherBad (suc k) j ≡ false
-        gone = ap (λ t. not t && bad' j) (any-here k (λ i. same i j) (H .holds k l .2))
-
-        here : furtherBad k j ≡ bad k
-        here = ap (λ t. not (isFound t) && bad' j)
-            (none-below (λ i. same i j) k (λ i h. never-true _ (λ e. let s = H .first i k j (omega arith) l e (H .holds k l .2) in omega arith)))
-            ∙ sym (H .equal k j (H .holds k l .2))
+        by : (b : Bool) → bad k ≡ b → countBelow L' bad' ≡ countBelow k bad + countBelow L' (furtherBad k)
+            → countBelow L' bad' ≡ countBelow k bad + flagOf (bad k) + countBelow L' (furtherBad (suc k))
+        by true e before = let flag = ap flagOf e in omega (arith, bad-row k l e)
+        by false e before = let flag = ap flagOf e in omega (arith, other-row k l e)
 
     pub bad-adds : countBelow L' bad' ≡ countBelow L bad + countBelow L' (furtherBad L)
     bad-adds = bad-adds-below L (omega arith)

@@ -1,20 +1,37 @@
--- The pair of jobs meets the conditions of the enlargement rule.
+-- The pairs of jobs meet the conditions of the enlargement rule.
 use mathlib.Core.Path.{_≡_, refl, sym, subst}
 use mathlib.Core.List.{List, [], _∷_}
 use Prim.Native.Nat.{ℕ, zero, suc, _<_}
 use native.Mathlib.Omega.{arith}
 use lib.ListN.{length}
 use Rattle.lists.specs.Tabulated.{tabulate}
+use Rattle.lists.proofs.Truth.{clash}
 use Rattle.format.specs.Bounds.{largestBound, numeratorCount}
 use Rattle.format.specs.declared.Outcome.the-variants.{Accepted}
 use Rattle.poly.specs.Coefficients.{at}
+use Rattle.poly.specs.Operations.{valueOf}
 use Rattle.cursor.specs.Bits.{fieldOf}
 use Rattle.header.specs.Header.{outputsOf, dfOf, spareBitOf, numeratorBoundsOf, flagsOf, boundsOf}
 use Rattle.row_search.specs.Search.{firstBelow}
 use Rattle.rows.specs.Rows.{numberAt}
+use Rattle.word.specs.Word.{countBelow}
+use Rattle.marked_rows.specs.Marks.{markOf, speakingCount}
 use Rattle.job.specs.Refusals.{outcomeOf, outcomeOfRows}
-use Rattle.enlargement.specs.Enlargement.{rowBytes, HoldsRows, Comparable}
-use Rattle.enlargement.specs.Pair.{smallerJob, largerJob, pairNumerators, pairDenominator}
+use Rattle.problem.specs.Rows.{wrongRow}
+use Rattle.problem.specs.Answers.{wrongCount}
+use Rattle.enlargement.specs.Enlargement.{Meets, rowBytes, HoldsRows, HoldsSpeaking, sameBytes, furtherWrong, Comparable}
+use Rattle.enlargement.specs.Pair.{
+  smallerJob,
+  largerJob,
+  pairNumerators,
+  pairDenominator,
+  silentJob,
+  markedJob,
+  poleJob,
+  poleLargerJob,
+  poleNumerators,
+  poleDenominator,
+}
 
 -- a constant has no coefficient above its first
 pub constant : (c k : ℕ) → 0 < k → at (c ∷ []) k ≡ 0
@@ -25,9 +42,40 @@ constant c (suc k) l = past k
     past zero = refl
     past (suc k) = refl
 
-well-formed : outcomeOf largerJob 12 ≡ Accepted
-unfolding outcomeOf outcomeOfRows tabulate largestBound numeratorCount fieldOf outputsOf dfOf spareBitOf numeratorBoundsOf flagsOf boundsOf firstBelow numberAt
-well-formed = refl
+linear : (c d k : ℕ) → 1 < k → at (c ∷ d ∷ []) k ≡ 0
+linear c d zero l = absurd (omega arith)
+linear c d (suc k) l = constant d k (omega arith)
+
+-- the same prime and n
+abbrev Alike : (s s' : List ℕ) → Type 0
+Alike s s' = (boundsOf s' .prime ≡ boundsOf s .prime) × (boundsOf s' .outputs ≡ boundsOf s .outputs)
+
+pairs-alike : Alike smallerJob largerJob × Alike silentJob largerJob × Alike smallerJob markedJob × Alike poleJob poleLargerJob
+unfolding fieldOf outputsOf boundsOf
+pairs-alike = ((refl, refl), (refl, refl), (refl, refl), (refl, refl))
+
+comparable : {Holds : List ℕ → List ℕ → Type 0} {room : ℕ} {f : ℕ → List ℕ} {g : List ℕ} (s s' : List ℕ)
+    → Alike s s'
+    → outcomeOf s' room ≡ Accepted
+    → Holds s s'
+    → Meets s' f g
+    → (area' : List ℕ)
+    → length area' ≡ room
+    → Comparable Holds s s' area' f g
+comparable s s' alike well-formed holds meets area' n = record {
+  prime = alike .0;
+  outputs = alike .1;
+  well-formed = subst (λ room. outcomeOf s' room ≡ Accepted) (sym n) well-formed;
+  holds = holds;
+  meets = meets;
+}
+
+-- all jobs are well formed
+pub jobs-well-formed : (outcomeOf smallerJob 10 ≡ Accepted) × (outcomeOf largerJob 12 ≡ Accepted) × (outcomeOf silentJob 10 ≡ Accepted)
+    × (outcomeOf markedJob 10 ≡ Accepted) × (outcomeOf poleJob 12 ≡ Accepted) × (outcomeOf poleLargerJob 12 ≡ Accepted)
+unfolding outcomeOf outcomeOfRows tabulate largestBound numeratorCount fieldOf outputsOf dfOf spareBitOf numeratorBoundsOf flagsOf boundsOf firstBelow numberAt markOf
+    speakingCount countBelow
+jobs-well-formed = (refl, refl, refl, refl, refl, refl)
 
 rows-held : HoldsRows smallerJob largerJob
 unfolding fieldOf outputsOf spareBitOf boundsOf rowBytes
@@ -36,12 +84,55 @@ rows-held (suc zero) l = (3, omega arith, refl)
 rows-held (suc (suc zero)) l = (0, omega arith, refl)
 rows-held (suc (suc (suc i))) l = absurd (omega arith)
 
-pub pair-comparable : (area' : List ℕ) → length area' ≡ 12 → Comparable smallerJob largerJob area' pairNumerators pairDenominator
-unfolding fieldOf outputsOf boundsOf
-pair-comparable area' n = record {
-  prime = refl;
-  outputs = refl;
-  well-formed = subst (λ room. outcomeOf largerJob room ≡ Accepted) (sym n) well-formed;
-  holds = rows-held;
-  meets = record { denominator = λ k l. constant 1 k l; numerators = λ i k li l. constant _ k (omega arith) };
-}
+silent-held : HoldsSpeaking silentJob largerJob
+unfolding fieldOf outputsOf spareBitOf flagsOf boundsOf rowBytes firstBelow numberAt markOf
+silent-held zero l e = (2, omega arith, refl)
+silent-held (suc zero) l e = clash (sym e)
+silent-held (suc (suc zero)) l e = (3, omega arith, refl)
+silent-held (suc (suc (suc zero))) l e = (0, omega arith, refl)
+silent-held (suc (suc (suc (suc i)))) l e = absurd (omega arith)
+
+marked-held : HoldsRows smallerJob markedJob
+unfolding fieldOf outputsOf spareBitOf boundsOf rowBytes
+marked-held zero l = (2, omega arith, refl)
+marked-held (suc zero) l = (4, omega arith, refl)
+marked-held (suc (suc zero)) l = (1, omega arith, refl)
+marked-held (suc (suc (suc i))) l = absurd (omega arith)
+
+pole-held : HoldsSpeaking poleJob poleLargerJob
+unfolding fieldOf outputsOf spareBitOf flagsOf boundsOf rowBytes firstBelow numberAt markOf
+pole-held zero l e = (2, omega arith, refl)
+pole-held (suc zero) l e = clash (sym e)
+pole-held (suc (suc zero)) l e = (4, omega arith, refl)
+pole-held (suc (suc (suc zero))) l e = (6, omega arith, refl)
+pole-held (suc (suc (suc (suc zero)))) l e = (0, omega arith, refl)
+pole-held (suc (suc (suc (suc (suc i))))) l e = absurd (omega arith)
+
+constants-meet : (s : List ℕ) → Meets s pairNumerators pairDenominator
+constants-meet s = record { denominator = λ k l. constant 1 k (omega arith); numerators = λ i k li l. constant _ k (omega arith) }
+
+pole-meets : Meets poleLargerJob poleNumerators poleDenominator
+unfolding fieldOf boundsOf
+pole-meets = record { denominator = λ k l. linear 0 1 k l; numerators = λ i k li l. constant _ k (omega arith) }
+
+-- the conditions
+pub pair-comparable : (area' : List ℕ) → length area' ≡ 12 → Comparable HoldsRows smallerJob largerJob area' pairNumerators pairDenominator
+pair-comparable = comparable smallerJob largerJob (pairs-alike .0) (jobs-well-formed .1) rows-held (constants-meet largerJob)
+
+pub silent-comparable : (area' : List ℕ) → length area' ≡ 12 → Comparable HoldsSpeaking silentJob largerJob area' pairNumerators pairDenominator
+silent-comparable = comparable silentJob largerJob (pairs-alike .1) (jobs-well-formed .1) silent-held (constants-meet largerJob)
+
+pub marked-comparable : (area' : List ℕ) → length area' ≡ 10 → Comparable HoldsRows smallerJob markedJob area' pairNumerators pairDenominator
+marked-comparable = comparable smallerJob markedJob (pairs-alike .2) (jobs-well-formed .3) marked-held (constants-meet markedJob)
+
+pub pole-comparable : (area' : List ℕ) → length area' ≡ 12 → Comparable HoldsSpeaking poleJob poleLargerJob area' poleNumerators poleDenominator
+pole-comparable = comparable poleJob poleLargerJob (pairs-alike .3) (jobs-well-formed .5) pole-held pole-meets
+
+-- of the pairs with marks, one row of T and one further row of T' is wrong
+abbrev pub OneEach : (s s' : List ℕ) (f : ℕ → List ℕ) (g : List ℕ) → Type 0
+OneEach s s' f g = (wrongCount s f g ≡ 1) × (furtherWrong s s' f g ≡ 1)
+
+pub marked-counts : OneEach silentJob largerJob pairNumerators pairDenominator × OneEach smallerJob markedJob pairNumerators pairDenominator
+    × OneEach poleJob poleLargerJob poleNumerators poleDenominator
+unfolding fieldOf outputsOf spareBitOf flagsOf boundsOf rowBytes sameBytes firstBelow countBelow markOf wrongRow valueOf numberAt
+marked-counts = ((refl, refl), (refl, refl), (refl, refl))

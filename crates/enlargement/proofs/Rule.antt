@@ -19,13 +19,25 @@ use Rattle.word.proofs.Words.{bit-exactly}
 use Rattle.problem.specs.Reduced.{Reduced}
 use Rattle.problem.specs.Answers.{wrongAt, wrongCount, Within}
 use Rattle.recovery.specs.Recovery.{Settled}
-use Rattle.enlargement.specs.Enlargement.{AnsweredWith, Named, StandsAt, furtherRow, furtherWrong, MarkedAt, Enlarged, Comparable, EnlargementRule}
+use Rattle.enlargement.specs.Enlargement.{
+  AnsweredWith,
+  Named,
+  StandsAt,
+  HoldsRows,
+  HoldsSpeaking,
+  furtherRow,
+  furtherWrong,
+  MarkedAt,
+  Enlarged,
+  Comparable,
+  EnlargementRule,
+}
 use Rattle.enlargement.proofs.RowBytes.{same-wrong}
 use Rattle.enlargement.proofs.Exactly.{answered-named, named-answered, answered-word}
 use Rattle.enlargement.proofs.Enlarging.{wrong-adds, old-or-new}
 
 module _ {s area : List ℕ} {r : Report} {after : List ℕ} (S : Settled s area r after) {s' area' : List ℕ} {r' : Report} {after' : List ℕ}
-    (S' : Settled s' area' r' after') (f : ℕ → List ℕ) (g : List ℕ) (k : ℕ) (answered : AnsweredWith s r after f g k) (C : Comparable s s' area' f g) where
+    (S' : Settled s' area' r' after') (f : ℕ → List ℕ) (g : List ℕ) (k : ℕ) (answered : AnsweredWith s r after f g k) (C : Comparable HoldsSpeaking s s' area' f g) where
   N : Named s area f g k
   N = answered-named s area r after S answered
 
@@ -62,7 +74,7 @@ module _ {s area : List ℕ} {r : Report} {after : List ℕ} (S : Settled s area
 
   -- k + w
   together : wrongCount s' f g ≡ k + furtherWrong s s' f g
-  together = let e = wrong-adds s s' W W' (C .prime) same-outputs f g (C .holds) in let c = N .count in omega arith
+  together = let e = wrong-adds s s' W W' (C .prime) same-outputs (C .holds) f g in let c = N .count in omega arith
 
   exactly : ((c : ℕ) × AnsweredWith s' r' after' f g c) ↔ (k + furtherWrong s s' f g ≤ boundsOf s' .errors)
   exactly = (
@@ -92,35 +104,49 @@ module _ {s area : List ℕ} {r : Report} {after : List ℕ} (S : Settled s area
         subst (λ w. (bitAt w j ≡ 1) ↔ ((j < boundsOf s' .rows) × (wrongAt s' f g j ≡ true))) (sym (answered-word s' area' r' after' S' w))
         (bit-exactly (boundsOf s' .rows) (wrongAt s' f g) j (let n = W' .fields .rows-most in omega arith) l)
 
-    marked-wrong : MarkedAt s after s' f g j → wrongAt s' f g j ≡ true
-    marked-wrong (inl t) =
-        sym (same-wrong s s' same-outputs (C .prime) f g (t .0) j (t .2))
-        ∙ bit (t .0) (let l = t .1 in let n = W .fields .rows-most in omega arith) .0 (t .3) .1
-    marked-wrong (inr t) = t .1
+    -- a row of T in T' is wrong in both or in none
+    wrong-there : j < boundsOf s' .rows → (i : ℕ) → i < boundsOf s .rows → StandsAt s i s' j → wrongAt s f g i ≡ wrongAt s' f g j
+    wrong-there l' i l e = same-wrong s s' same-outputs W W' i j l l' e (C .prime) f g
 
-    wrong-marked : wrongAt s' f g j ≡ true → MarkedAt s after s' f g j
-    wrong-marked e = by (old-or-new s s' W W' (C .prime) same-outputs f g (C .holds) j)
+    marked-wrong : j < boundsOf s' .rows → MarkedAt s after s' f g j → wrongAt s' f g j ≡ true
+    marked-wrong l' (inl t) =
+        sym (wrong-there l' (t .0) (t .1) (t .2)) ∙ bit (t .0) (let l = t .1 in let n = W .fields .rows-most in omega arith) .0 (t .3) .1
+    marked-wrong l' (inr t) = t .1
+
+    wrong-marked : j < boundsOf s' .rows → wrongAt s' f g j ≡ true → MarkedAt s after s' f g j
+    wrong-marked l' e = by (old-or-new s s' W W' (C .prime) same-outputs j)
       where
         by : ((i : ℕ) × (i < boundsOf s .rows) × StandsAt s i s' j) ⊎ (furtherRow s s' j ≡ true) → MarkedAt s after s' f g j
         by (inl t) =
             let l = t .1 in
             let n = W .fields .rows-most in
-            inl (t .0, t .1, t .2, bit (t .0) (omega arith) .1 (t .1, same-wrong s s' same-outputs (C .prime) f g (t .0) j (t .2) ∙ e))
+            inl (t .0, t .1, t .2, bit (t .0) (omega arith) .1 (t .1, wrong-there l' (t .0) (t .1) (t .2) ∙ e))
         by (inr h) = inr (h, e)
 
     ones : j < boundsOf s' .rows → MarkedAt s after s' f g j → bitAt (wordFrom after') j ≡ 1
-    ones l m = bit' (let n = W' .fields .rows-most in omega arith) .1 (l, marked-wrong m)
+    ones l m = bit' (let n = W' .fields .rows-most in omega arith) .1 (l, marked-wrong l m)
 
     zeros : j < 32 → ((j < boundsOf s' .rows) × MarkedAt s after s' f g j → ⊥) → bitAt (wordFrom after') j ≡ 0
     zeros l none = by (ℕ-discrete (bitAt (wordFrom after') j) 1)
       where
         by : Dec (bitAt (wordFrom after') j ≡ 1) → bitAt (wordFrom after') j ≡ 0
-        by (yes e) = let t = bit' l .0 e in absurd (none (t .0, wrong-marked (t .1)))
+        by (yes e) = let t = bit' l .0 e in absurd (none (t .0, wrong-marked (t .0) (t .1)))
         by (no n) = omega arith
 
   pub enlarged : Enlarged s after s' r' after' f g k
   enlarged = record { exactly = exactly; count = count; ones = ones; zeros = zeros }
 
-pub enlargement : {s area : List ℕ} {r : Report} {after : List ℕ} → Settled s area r after → {s' area' : List ℕ} {r' : Report} {after' : List ℕ}
-    → Settled s' area' r' after' → EnlargementRule s r after s' area' r' after'
-enlargement S S' f g k w C = enlarged S S' f g k w C
+module _ {s area : List ℕ} {r : Report} {after : List ℕ} (S : Settled s area r after) {s' area' : List ℕ} {r' : Report} {after' : List ℕ}
+    (S' : Settled s' area' r' after') where
+  pub enlargement : EnlargementRule HoldsSpeaking s r after s' area' r' after'
+  enlargement f g k w C = enlarged S S' f g k w C
+
+  -- where T' holds every row of T, it holds those that speak
+  pub enlargement-whole : EnlargementRule HoldsRows s r after s' area' r' after'
+  enlargement-whole f g k w C = enlargement f g k w (record {
+    prime = C .prime;
+    outputs = C .outputs;
+    well-formed = C .well-formed;
+    holds = λ i l speaking. C .holds i l;
+    meets = C .meets;
+  })

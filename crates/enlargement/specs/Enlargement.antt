@@ -1,5 +1,5 @@
--- Paper 01, "What a contract here has to settle", point 5: demand 3, the enlargement rule, about any two jobs T and T'. Here s and s'
--- are their bytes, r and after what the call for T reported and left in its area, r' and after' the same for T'.
+-- Paper 01, "What a contract here has to settle", point 5, with paper 02, item 6: demand 3, the enlargement rule, about any two jobs T and T'. Here s
+-- and s' are their bytes, r and after what the call for T reported and left in its area, r' and after' the same for T'.
 use mathlib.Core.Path.{_≡_}
 use mathlib.Core.Bool.{Bool, true, false, not, _&&_}
 use mathlib.Core.Logic.{_⊎_, _↔_}
@@ -15,6 +15,7 @@ use Rattle.row_search.specs.Search.{anyBelow}
 use Rattle.header.specs.Header.{headerLengthOf, boundsOf}
 use Rattle.job.specs.Refusals.{WellFormed}
 use Rattle.word.specs.Word.{bitAt, countBelow}
+use Rattle.marked_rows.specs.Marks.{speaks}
 use Rattle.answer.specs.Bytes.{numeratorStart}
 use Rattle.problem.specs.Answers.{Answer, wrongAt, wrongCount}
 use Rattle.recovery.specs.Recovery.{Settled}
@@ -60,6 +61,11 @@ StandsAt s i s' j = rowBytes s' j ≡ rowBytes s i
 abbrev pub HoldsRows : List ℕ → List ℕ → Type 0
 HoldsRows s s' = (i : ℕ) → i < boundsOf s .rows → (j : ℕ) × (j < boundsOf s' .rows) × StandsAt s i s' j
 
+-- "The enlargement rule counts only speaking rows": T' holds every row of T that speaks. A silent row of T may be missing there, or a row with its point
+-- may stand in its place.
+abbrev pub HoldsSpeaking : List ℕ → List ℕ → Type 0
+HoldsSpeaking s s' = (i : ℕ) → i < boundsOf s .rows → speaks s i ≡ true → (j : ℕ) × (j < boundsOf s' .rows) × StandsAt s i s' j
+
 -- equal lists of bytes
 unfoldable pub sameBytes : List ℕ → List ℕ → Bool
 sameBytes [] [] = true
@@ -91,18 +97,18 @@ pub record Enlarged (s after s' : List ℕ) (r' : Report) (after' : List ℕ) (f
   pub zeros : (c : ℕ) → AnsweredWith s' r' after' f g c → (j : ℕ) → j < 32
       → ((j < boundsOf s' .rows) × MarkedAt s after s' f g j → ⊥) → bitAt (wordFrom after') j ≡ 0
 
--- the conditions on the two jobs: the same prime and n, T' well formed, T' holds every row of T, f and g within the bounds of T'
-pub record Comparable (s s' area' : List ℕ) (f : ℕ → List ℕ) (g : List ℕ) : Type 0 where
+-- the conditions on the two jobs: the same prime and n, T' well formed, T' holds rows of T, f and g within the bounds of T'. The flags may differ.
+pub record Comparable (Holds : List ℕ → List ℕ → Type 0) (s s' area' : List ℕ) (f : ℕ → List ℕ) (g : List ℕ) : Type 0 where
   pub prime : boundsOf s' .prime ≡ boundsOf s .prime
   pub outputs : boundsOf s' .outputs ≡ boundsOf s .outputs
   pub well-formed : WellFormed s' (length area')
-  pub holds : HoldsRows s s'
+  pub holds : Holds s s'
   pub meets : Meets s' f g
 
--- the enlargement rule
-abbrev pub EnlargementRule : List ℕ → Report → List ℕ → List ℕ → List ℕ → Report → List ℕ → Type 0
-EnlargementRule s r after s' area' r' after' =
-    (f : ℕ → List ℕ) (g : List ℕ) (k : ℕ) → AnsweredWith s r after f g k → Comparable s s' area' f g → Enlarged s after s' r' after' f g k
+-- the enlargement rule, where T' holds rows of T in the given sense
+abbrev pub EnlargementRule : (List ℕ → List ℕ → Type 0) → List ℕ → Report → List ℕ → List ℕ → List ℕ → Report → List ℕ → Type 0
+EnlargementRule Holds s r after s' area' r' after' =
+    (f : ℕ → List ℕ) (g : List ℕ) (k : ℕ) → AnsweredWith s r after f g k → Comparable Holds s s' area' f g → Enlarged s after s' r' after' f g k
 
 -- demand 3 as one claim about two calls: what each settles, when each has answered its job, and the rule
 pub record TwoCalls (s area : List ℕ) (r : Report) (after s' area' : List ℕ) (r' : Report) (after' : List ℕ) : Type 0 where
@@ -110,4 +116,6 @@ pub record TwoCalls (s area : List ℕ) (r : Report) (after s' area' : List ℕ)
   pub second : Settled s' area' r' after'
   pub first-answered : AnsweredExactly s area r after
   pub second-answered : AnsweredExactly s' area' r' after'
-  pub enlargement : EnlargementRule s r after s' area' r' after'
+  -- T' holds the rows of T that speak; and so also where it holds every row of T
+  pub enlargement : EnlargementRule HoldsSpeaking s r after s' area' r' after'
+  pub enlargement-whole : EnlargementRule HoldsRows s r after s' area' r' after'

@@ -1,25 +1,36 @@
--- Test 5 on a row as it is read.
-use mathlib.Core.Bool.{Bool, true, false, _||_}
+-- Test 5 on rows as they are read, and by their marks.
+use mathlib.Core.Bool.{Bool, true, false, _&&_, _||_}
 use mathlib.Core.List.{List}
-use mathlib.Core.Path.{_≡_, refl, ap, _∙_}
+use mathlib.Core.Path.{_≡_, refl, sym, ap, ap₂, _∙_}
 use Prim.Native.Nat.{ℕ, _<_, _≤_}
 use native.Mathlib.Omega.{arith}
-use borrow.Author.Tests.{lt-leb, lt-ltb, le-ltb}
+use borrow.Author.Tests.{leb-false, lt-leb, lt-ltb, le-ltb}
 use lib.Dec.{leb}
 use lib.ListN.{getD}
 use Rattle.field.specs.Primes.{modulusOf}
-use Rattle.field.proofs.Moduli.{modulus-positive}
-use Rattle.header.specs.Header.{boundsOf}
+use Rattle.field.proofs.Moduli.{modulus-prime, modulus-small, modulus-positive}
+use Rattle.header.specs.Header.{flagsOf, marksAllowed, boundsOf}
 use Rattle.header.proofs.Fields.{narrow}
 use Rattle.job.specs.Refusals.{outOfRange}
+use Rattle.job.proofs.ArrayTests.{values-in-table}
+use Rattle.word.proofs.Counts.{count-all}
+use Rattle.lists.proofs.Truth.{or-false}
 use Rattle.lists.proofs.Tabulated.{at-tabulate}
 use Rattle.row_search.specs.declared.Found.{Found}
 use Rattle.row_search.specs.declared.Found.the-variants.{Nothing}
 use Rattle.row_search.specs.Search.{ifHolds, orElse, firstBelow, anyBelow, isFound}
-use Rattle.row_search.proofs.FirstBelow.{first-cong, first-shorter}
+use Rattle.row_search.proofs.FirstBelow.{none-passes, any-passes, first-cong, first-shorter}
 use Rattle.rows.specs.declared.Row.{Row}
 use Rattle.rows.specs.Rows.{jobPoint, jobValue, valueOrZero}
 use Rattle.rows.specs.Steps.{rowAt}
+use Rattle.marked_rows.specs.declared.Mark.{Mark}
+use Rattle.marked_rows.specs.declared.Mark.the-variants.{None}
+use Rattle.marked_rows.specs.declared.SettledRow.{SettledRow}
+use Rattle.marked_rows.specs.Marks.{markAt, isUnmarked, speaking, speaks, speakingCount}
+use Rattle.marked_rows.specs.Table.{settledBy}
+use Rattle.marked_rows.proofs.Marks.{unmarked-if-not-allowed, unmarked-if-small}
+use Rattle.marked_rows.proofs.Entries.{settled-point, settled-value}
+use Rattle.form_check.specs.Steps.{numberTooLarge}
 
 -- four tests after another one, in a row
 any-of : (a b c d e : Bool)
@@ -35,25 +46,73 @@ pub any-of-four : (a : Bool) (t : ℕ → Bool) → ((((a || t 0) || t 1) || t 2
 unfolding firstBelow
 any-of-four a t = any-of a (t 0) (t 1) (t 2) (t 3)
 
-module _ (s : List ℕ) where
-  abbrev pub p : ℕ
+-- a row's point, as it is read
+pub row-point : (s : List ℕ) (r : ℕ) → rowAt s r .point ≡ jobPoint s r
+unfolding rowAt
+row-point s r = refl
+
+module _ (s : List ℕ) (r : ℕ) where
+  abbrev p : ℕ
   p = modulusOf (boundsOf s .prime)
 
-  module _ (r : ℕ) where
-    -- the test of a value that exists, and of one that does not
-    value : (i : ℕ) → i < boundsOf s .outputs → leb p (getD (rowAt s r .values) i 0) ≡ leb p (jobValue s r i)
-    unfolding rowAt
-    value i l = ap (leb p) (at-tabulate 4 (valueOrZero s r) i (let h = narrow s in omega arith) ∙ simp (lt-ltb i (boundsOf s .outputs) l))
+  abbrev n : ℕ
+  n = boundsOf s .outputs
 
-    no-value : (i : ℕ) → boundsOf s .outputs ≤ i → i < 4 → leb p (getD (rowAt s r .values) i 0) ≡ false
-    unfolding rowAt
-    no-value i l m =
-        ap (leb p) (at-tabulate 4 (valueOrZero s r) i m ∙ simp (le-ltb i (boundsOf s .outputs) l)) ∙ lt-leb p 0 (modulus-positive (boundsOf s .prime))
+  -- the test of a value that exists, and of one that does not
+  value : (i : ℕ) → i < n → leb p (getD (rowAt s r .values) i 0) ≡ leb p (jobValue s r i)
+  unfolding rowAt
+  value i l = ap (leb p) (at-tabulate 4 (valueOrZero s r) i (let h = narrow s in omega arith) ∙ simp (lt-ltb i n l))
 
-    pub row-test : {row : Row} → row ≡ rowAt s r → (leb p (row .point) || anyBelow 4 (λ i. leb p (getD (row .values) i 0))) ≡ outOfRange s r
-    unfolding rowAt
-    row-test e =
-        let n = boundsOf s .outputs in
-        let values = first-shorter (λ i. leb p (getD (rowAt s r .values) i 0)) 4 n (narrow s .outputs-most) no-value ∙ first-cong n _ _ value in
-        ap (λ (x : Row). leb p (x .point) || anyBelow 4 (λ i. leb p (getD (x .values) i 0))) e
-        ∙ ap (λ (f : Found). leb p (jobPoint s r) || isFound f) values
+  no-value : (i : ℕ) → n ≤ i → i < 4 → leb p (getD (rowAt s r .values) i 0) ≡ false
+  unfolding rowAt
+  no-value i l m = ap (leb p) (at-tabulate 4 (valueOrZero s r) i m ∙ simp (le-ltb i n l)) ∙ lt-leb p 0 (modulus-positive (boundsOf s .prime))
+
+  values : anyBelow 4 (λ i. leb p (getD (rowAt s r .values) i 0)) ≡ anyBelow n (λ i. leb p (jobValue s r i))
+  values =
+      ap isFound (first-shorter (λ i. leb p (getD (rowAt s r .values) i 0)) 4 n (narrow s .outputs-most) no-value ∙ first-cong n _ _ value)
+
+  -- a row as it is read
+  pub row-test : {q : ℕ} {row : Row} → q ≡ p → row ≡ rowAt s r → (leb q (row .point) || anyBelow 4 (λ i. leb q (getD (row .values) i 0))) ≡ numberTooLarge s r
+  row-test modulus read =
+      ap₂ (λ q (x : Row). leb q (x .point) || anyBelow 4 (λ i. leb q (getD (x .values) i 0))) modulus read
+      ∙ ap₂ _||_ (ap (leb p) (row-point s r)) values
+
+  -- and by its mark
+  pub settled-test : {q : ℕ} {row : SettledRow} → q ≡ p → row ≡ settledBy (markAt s r) (rowAt s r)
+      → (leb q (row .point) || anyBelow 4 (λ i. leb q (getD (row .values) i 0))) ≡ outOfRange s r
+  settled-test modulus settled =
+      let m = markAt s r in
+      ap₂ (λ q (x : SettledRow). leb q (x .point) || anyBelow 4 (λ i. leb q (getD (x .values) i 0))) modulus settled
+      ∙ ap₂ _||_ (ap (leb p) (settled-point m (rowAt s r) ∙ row-point s r))
+      (ap isFound (first-cong 4 _ _ (λ i l. ap (leb p) (settled-value m (rowAt s r) i l)))
+      ∙ values-in-table m p 4 (λ i. getD (rowAt s r .values) i 0) (modulus-prime (boundsOf s .prime) .two)
+      ∙ ap (λ b. isUnmarked m && b) values)
+
+  -- the two tests of an unmarked row are the same
+  same-test : markAt s r ≡ None → numberTooLarge s r ≡ outOfRange s r
+  same-test unmarked = ap (λ (m : Mark). leb p (jobPoint s r) || (isUnmarked m && anyBelow n (λ i. leb p (jobValue s r i)))) (sym unmarked)
+
+  -- and a row of numbers below p is one
+  unmarked-below : numberTooLarge s r ≡ false → markAt s r ≡ None
+  unmarked-below e =
+      let some = narrow s .outputs-least in
+      let below = leb-false p (jobValue s r 0) (any-passes (λ i. leb p (jobValue s r i)) n (or-false (leb p (jobPoint s r)) _ e .1) 0 (omega arith)) in
+      let small = modulus-small (boundsOf s .prime) in
+      unmarked-if-small _ n (jobValue s r) 0 (omega arith) (omega arith)
+
+module _ (s : List ℕ) where
+  -- so no row is marked where all numbers are below p
+  none-marked : firstBelow (boundsOf s .rows) (numberTooLarge s) ≡ Nothing → (r : ℕ) → r < boundsOf s .rows → markAt s r ≡ None
+  none-marked e r l = unmarked-below s r (none-passes (numberTooLarge s) (boundsOf s .rows) e r l)
+
+  pub scanned-below : {f : Found} → f ≡ firstBelow (boundsOf s .rows) (numberTooLarge s) → f ≡ Nothing → f ≡ firstBelow (boundsOf s .rows) (outOfRange s)
+  scanned-below e none = e ∙ first-cong (boundsOf s .rows) _ _ (λ r l. same-test s r (none-marked (sym e ∙ none) r l))
+
+  pub all-speak : firstBelow (boundsOf s .rows) (numberTooLarge s) ≡ Nothing → boundsOf s .rows ≡ speakingCount s
+  unfolding speakingCount
+  all-speak e = sym (count-all (boundsOf s .rows) (speaks s) (λ r l. ap speaking (none-marked e r l)))
+
+  -- and none is where marks are not allowed
+  pub scanned-without : {f : Found} → f ≡ firstBelow (boundsOf s .rows) (numberTooLarge s) → marksAllowed (flagsOf s) ≡ false
+      → f ≡ firstBelow (boundsOf s .rows) (outOfRange s)
+  scanned-without e without = e ∙ first-cong (boundsOf s .rows) _ _ (λ r l. same-test s r (unmarked-if-not-allowed _ _ (jobValue s r) without))

@@ -17,6 +17,7 @@ use Rattle.format.specs.declared.Reason.the-variants.{
   TooManyRows,
   NotReduced,
   AddedHeader,
+  TooFewSpeaking,
 }
 use Rattle.format.specs.Outcomes.{numberOf}
 
@@ -32,11 +33,12 @@ number-positive NoAnswer = omega arith
 number-positive TooManyRows = omega arith
 number-positive NotReduced = omega arith
 number-positive AddedHeader = omega arith
+number-positive TooFewSpeaking = omega arith
 
 -- the reasons, each at the place of its number
 abbrev reasonAt : ℕ → Reason
 reasonAt n =
-    getD (NoAnswer ∷ TooShort ∷ SpareBit ∷ ByteCount ∷ TooFewRows ∷ OutOfRange ∷ RepeatedPoint ∷ AreaTooShort ∷ NoAnswer ∷ TooManyRows ∷ NotReduced ∷ AddedHeader ∷ []) n NoAnswer
+    getD (NoAnswer ∷ TooShort ∷ SpareBit ∷ ByteCount ∷ TooFewRows ∷ OutOfRange ∷ RepeatedPoint ∷ AreaTooShort ∷ NoAnswer ∷ TooManyRows ∷ NotReduced ∷ AddedHeader ∷ TooFewSpeaking ∷ []) n NoAnswer
 
 reason-of-number : (reason : Reason) → reasonAt (numberOf reason) ≡ reason
 reason-of-number TooShort = refl
@@ -50,6 +52,7 @@ reason-of-number NoAnswer = refl
 reason-of-number TooManyRows = refl
 reason-of-number NotReduced = refl
 reason-of-number AddedHeader = refl
+reason-of-number TooFewSpeaking = refl
 
 pub number-injective : (q q' : Reason) → numberOf q ≡ numberOf q' → q ≡ q'
 number-injective q q' e = sym (reason-of-number q) ∙ ap reasonAt e ∙ reason-of-number q'

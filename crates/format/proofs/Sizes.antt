@@ -17,9 +17,6 @@ numerator-low s j = let e = s .enough j in let r = s .rows in omega arith
 pub denominator-low : {b : Bounds} → Sized b → b .dg + 2 * b .errors ≤ 30
 denominator-low s = let e = s .enough 0 in let r = s .rows in omega arith
 
-pub slack-low : {b : Bounds} → Sized b → b .dg + b .errors < b .rows
-slack-low s = let e = s .enough 0 in omega arith
-
 -- the first outputs have no more coefficients than more of them
 pub counts-rise : (b : Bounds) (i n : ℕ) → i ≤ n → numeratorCount b i ≤ numeratorCount b n
 unfolding numeratorCount

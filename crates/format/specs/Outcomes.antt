@@ -13,6 +13,7 @@ use Rattle.format.specs.declared.Reason.the-variants.{
   TooManyRows,
   NotReduced,
   AddedHeader,
+  TooFewSpeaking,
 }
 use Rattle.format.specs.declared.Report.{Report}
 use Rattle.format.specs.declared.Outcome.{Outcome}
@@ -21,7 +22,7 @@ use Rattle.format.specs.declared.WritingReport.{WritingReport}
 use Rattle.format.specs.declared.Writing.{Writing}
 use Rattle.format.specs.declared.Writing.the-variants as writing
 
--- the number of a refusal: 1 to 8 in paper 01's table, 9 and 10 in paper 02, item 1, 11 in item 5
+-- the number of a refusal: 1 to 8 in paper 01's table, 9 and 10 in paper 02, item 1, 11 in item 5, 12 in item 6
 abbrev pub numberOf : Reason → ℕ
 numberOf TooShort = 1
 numberOf SpareBit = 2
@@ -34,6 +35,7 @@ numberOf NoAnswer = 8
 numberOf TooManyRows = 9
 numberOf NotReduced = 10
 numberOf AddedHeader = 11
+numberOf TooFewSpeaking = 12
 
 -- "A refusal carries its number and the row it speaks of": it writes nothing, and no rows are counted
 abbrev pub refusedReport : (number row : ℕ) → Report

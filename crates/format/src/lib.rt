@@ -62,7 +62,7 @@ impl Bounds {
 }
 
 // The refusals in the order of their numbers: the eight of paper 01's table, then those of paper 02. A job is never refused with SpareBit, which
-// stays for formats without the longer header, and a recovery gives of the later ones AddedHeader alone.
+// stays for formats without the longer header, and a recovery gives of the later ones AddedHeader and TooFewSpeaking alone.
 pub enum Reason {
     TooShort,
     SpareBit,
@@ -75,6 +75,7 @@ pub enum Reason {
     TooManyRows,
     NotReduced,
     AddedHeader,
+    TooFewSpeaking,
 }
 
 // What a call answers. Accepted is the reader's answer to a well-formed job; recovery never gives it.
@@ -100,6 +101,7 @@ pub fn number(reason: Reason) -> u32
         Reason::TooManyRows => 9,
         Reason::NotReduced => 10,
         Reason::AddedHeader => 11,
+        Reason::TooFewSpeaking => 12,
     }
 }
 

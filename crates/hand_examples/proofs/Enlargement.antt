@@ -9,7 +9,8 @@ use Rattle.format.specs.Bounds.{numeratorBoundOf, numeratorCount}
 use Rattle.poly.specs.Coefficients.{at}
 use Rattle.poly.specs.Operations.{valueOf}
 use Rattle.cursor.specs.Bits.{fieldOf}
-use Rattle.header.specs.Header.{outputsOf, dfOf, spareBitOf, numeratorBoundsOf, boundsOf}
+use Rattle.header.specs.Header.{outputsOf, dfOf, spareBitOf, numeratorBoundsOf, flagsOf, boundsOf}
+use Rattle.marked_rows.specs.Marks.{markOf}
 use Rattle.row_search.specs.Search.{firstBelow}
 use Rattle.rows.specs.Rows.{numberAt}
 use Rattle.word.specs.Word.{countBelow}
@@ -43,11 +44,11 @@ listed area = record {
     numerators (suc (suc i)) k li l = absurd (omega arith)
 
 further-wrong : furtherWrong (smaller .job) (larger .job) f g ≡ 1
-unfolding fieldOf outputsOf spareBitOf boundsOf rowBytes sameBytes firstBelow countBelow wrongRow valueOf numberAt
+unfolding fieldOf outputsOf spareBitOf flagsOf markOf boundsOf rowBytes sameBytes firstBelow countBelow wrongRow valueOf numberAt
 further-wrong = refl
 
 pub rule-speaks : RuleSpeaks
-unfolding fieldOf outputsOf spareBitOf boundsOf rowBytes sameBytes firstBelow wrongRow valueOf numberAt table
+unfolding fieldOf outputsOf spareBitOf flagsOf markOf boundsOf rowBytes sameBytes firstBelow wrongRow valueOf numberAt table
 rule-speaks area area' n n' = record {
   first = all-hold .1 .0 area n;
   second = all-hold .0 area' n';

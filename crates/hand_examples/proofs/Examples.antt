@@ -43,16 +43,18 @@ use Rattle.format.specs.Bounds.{largestBound, numeratorCount}
 use Rattle.cursor.specs.Bits.{fieldOf}
 use Rattle.header.specs.Header.{outputsOf, dfOf, spareBitOf, numeratorBoundsOf, flagsOf, boundsOf}
 use Rattle.row_search.specs.Search.{firstBelow}
-use Rattle.rows.specs.Rows.{numberAt, jobPoints, jobValues}
+use Rattle.rows.specs.Rows.{numberAt}
+use Rattle.marked_rows.specs.Marks.{markOf, speakingCount}
+use Rattle.marked_rows.specs.Table.{jobPoints, jobWeights, jobValues}
 use Rattle.job.specs.Refusals.{outcomeOfRows, outcomeOf}
-use Rattle.problem.specs.Rows.{wrongRow}
+use Rattle.judge.specs.Rows.{failsRow}
 use Rattle.word.specs.Word.{wordOf, countBelow}
 use Rattle.answer.specs.Bytes.{coefficientBytes, outputBytes, overwritten}
 use Rattle.format.specs.declared.Report.{Report}
 use Rattle.recovery.specs.Recovery.{Settled}
 use Rattle.solver.specs.Solutions.{unsolvedSolution, wordBy, countedSolution, judgedSolution}
 use Rattle.recovery_laws.proofs.Laws.{settled-unique}
-use Rattle.hand_examples.specs.Table.{Example, table, ExampleHolds, EveryHolds}
+use Rattle.hand_examples.specs.Table.{Example, onePole, twoPoles, table, ExampleHolds, EveryHolds}
 use Rattle.hand_examples.specs.Enlargement.{smaller, larger}
 use Rattle.hand_examples.proofs.Model.{Result, resultOf, result-settled}
 
@@ -80,17 +82,17 @@ each (e ∷ l) h = (
   each l (ap others h),
 )
 
--- H1 to H12, and before them the two jobs of the enlargement rule's example
+-- H1 to H12, and before them the two jobs of the enlargement rule's example and those of paper 02, item 6
 abbrev all : List Example
-all = larger ∷ smaller ∷ table
+all = larger ∷ smaller ∷ twoPoles ∷ onePole ∷ table
 
 as-expected : map computed all ≡ map expected all
-unfolding table resultOf outcomeOf outcomeOfRows largestBound numeratorCount fieldOf outputsOf dfOf spareBitOf numeratorBoundsOf flagsOf boundsOf firstBelow numberAt jobPoints jobValues tabulate judgedSolution
+unfolding table resultOf outcomeOf outcomeOfRows largestBound numeratorCount fieldOf outputsOf dfOf spareBitOf numeratorBoundsOf flagsOf boundsOf firstBelow numberAt markOf speakingCount jobPoints jobWeights jobValues tabulate judgedSolution
     countedSolution unsolvedSolution wordBy candidateAfter nextOf withFraction extendedOf withOutput raisedBelow raisedAt columnOf columnAt
     startCandidate unsolvableCandidate pairsAfter stepBy startOf smallerOf combinedOf advancedOf discrepancyOf valueOf combinationOf
     combinationAt timesLinearOf timesLinearAt scaledOf scaledAt lengthOf lengthBelow sumBelow productAt productOf unitOf numeratorOf
     denominatorOf gcdOf gcdFrom remainderOf quotientOf leadingReciprocal degreeOf quotientFrom remainderFrom divisionStep cancelFactor cancelledOf
-    cancelledAt shifted reciprocalOf wrongRow wordOf countBelow coefficientBytes outputBytes
+    cancelledAt shifted reciprocalOf failsRow wordOf countBelow coefficientBytes outputBytes
 as-expected = refl
 
 pub all-hold : EveryHolds all
@@ -98,7 +100,11 @@ all-hold = each all as-expected
 
 -- H1 to H12
 pub hand-examples : EveryHolds table
-hand-examples = all-hold .1 .1
+hand-examples = all-hold .1 .1 .1 .1
+
+-- and the jobs with marks
+pub marked-examples : ExampleHolds onePole × ExampleHolds twoPoles
+marked-examples = (all-hold .1 .1 .1 .0, all-hold .1 .1 .0)
 
 -- and a call of the recovery for a job of the table reports and leaves nothing else
 pub only-result : (e : Example) → ExampleHolds e → (area : List ℕ) → length area ≡ e .room → {r : Report} {after : List ℕ} → Settled (e .job) area r after

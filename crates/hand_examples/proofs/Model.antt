@@ -12,7 +12,8 @@ use Rattle.format.specs.Outcomes.{refusedReport, recoveredReport, reportOf}
 use Rattle.format.specs.Bounds.{answerLengthOf}
 use Rattle.poly.specs.Vectors.{coefficientsAt}
 use Rattle.header.specs.Header.{boundsOf}
-use Rattle.rows.specs.Rows.{jobPoints, jobValues}
+use Rattle.marked_rows.specs.Marks.{speakingCount}
+use Rattle.marked_rows.specs.Table.{jobPoints, jobWeights, jobValues}
 use Rattle.job.specs.Refusals.{outcomeOf, WellFormed}
 use Rattle.job.specs.Reading.{readingOf}
 use Rattle.answer.specs.Bytes.{answerBytes, overwritten}
@@ -38,7 +39,7 @@ solvedBy s t false = record { report = refusedReport 8 0; bytes = [] }
 -- after the tests before 8
 abbrev tested : List ℕ → Outcome → Result
 tested s Accepted =
-    solvedBy s (solutionFor (boundsOf s) (jobPoints s) (jobValues s)) (solutionFor (boundsOf s) (jobPoints s) (jobValues s) .solvable)
+    solvedBy s (solutionFor (boundsOf s) (speakingCount s) (jobPoints s) (jobWeights s) (jobValues s)) (solutionFor (boundsOf s) (speakingCount s) (jobPoints s) (jobWeights s) (jobValues s) .solvable)
 tested s (Recovered bytes wrong) = record { report = reportOf (Recovered bytes wrong); bytes = [] }
 tested s (Refused reason row) = record { report = reportOf (Refused reason row); bytes = [] }
 
@@ -55,7 +56,7 @@ module _ (s area : List ℕ) where
       let same = outcome-read s area (readingOf s (length area)) refl ∙ e in
       subst (λ t. Settled s area (reportOf t) area) same (settle-early s area (readingOf s (length area)) refl (λ h. refused (sym same ∙ h)))
 
-  late : WellFormed s (length area) → (t : Solution) → t ≡ solutionFor (boundsOf s) (jobPoints s) (jobValues s) → (b : Bool) → t .solvable ≡ b → Is (solvedBy s t b)
+  late : WellFormed s (length area) → (t : Solution) → t ≡ solutionFor (boundsOf s) (speakingCount s) (jobPoints s) (jobWeights s) (jobValues s) → (b : Bool) → t .solvable ≡ b → Is (solvedBy s t b)
   late wf t e true h = settle-solved s area wf t e h (answerLengthOf (boundsOf s)) refl _ refl
   late wf t e false h = settle-unsolved s area wf t e h
 

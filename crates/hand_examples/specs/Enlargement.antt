@@ -7,7 +7,7 @@ use lib.ListN.{length}
 use Rattle.header.specs.Header.{boundsOf}
 use Rattle.answer.specs.Bytes.{overwritten}
 use Rattle.problem.specs.Answers.{wrongAt}
-use Rattle.enlargement.specs.Enlargement.{AnsweredWith, StandsAt, furtherRow, furtherWrong, Comparable}
+use Rattle.enlargement.specs.Enlargement.{AnsweredWith, StandsAt, furtherRow, furtherWrong, HoldsRows, Comparable}
 use Rattle.enlargement.specs.Pair.{smallerJob, largerJob, pairNumerators, pairDenominator}
 use Rattle.recovery.specs.Recovery.{Settled}
 use Rattle.hand_examples.specs.Table.{Example, answered}
@@ -31,7 +31,7 @@ pub record RuleApplies (area area' : List ℕ) : Type 0 where
   pub first : Settled (smaller .job) area (smaller .report) (overwritten (smaller .bytes) area)
   pub second : Settled (larger .job) area' (larger .report) (overwritten (larger .bytes) area')
   pub answered : AnsweredWith (smaller .job) (smaller .report) (overwritten (smaller .bytes) area) f g 1
-  pub comparable : Comparable (smaller .job) (larger .job) area' f g
+  pub comparable : Comparable HoldsRows (smaller .job) (larger .job) area' f g
   pub moved : StandsAt (smaller .job) 0 (larger .job) 2
   pub moved-wrong : StandsAt (smaller .job) 2 (larger .job) 0 × (wrongAt (smaller .job) f g 2 ≡ true)
   pub new-wrong : (furtherRow (smaller .job) (larger .job) 1 ≡ true) × (wrongAt (larger .job) f g 1 ≡ true)

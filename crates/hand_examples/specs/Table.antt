@@ -68,6 +68,19 @@ table =
     ∷ answered (three 5 5 2) 8 1 (0x2000 ∷ 0x0000 ∷ 0x0001 ∷ 0x0005 ∷ [])
     ∷ []
 
+-- Paper 02, item 6, rows that report a pole, modulo 7 and with E 0. df 0, dg 1, rows (3; 3, 5) and (4; pole): g = u + 3, f1 = 4, f2 = 2. The first output
+-- brings the factor u + 3, and the second need bring none.
+abbrev pub onePole : Example
+onePole =
+    answered (0x11 ∷ 0x00 ∷ 0x21 ∷ 0x00 ∷ 0x00 ∷ 0x08 ∷ 0x00 ∷ numbers (0x0003 ∷ 0x0003 ∷ 0x0005 ∷ 0x0004 ∷ 0xFFFF ∷ 0xFFFF ∷ []))
+    12 0 (0x0000 ∷ 0x0000 ∷ 0x0003 ∷ 0x0001 ∷ 0x0004 ∷ 0x0002 ∷ [])
+
+-- df 0, dg 2, rows (0; pole), (1; pole), (5; silent) and (2; 3): g = u (u - 1), f = 6. With numbers in the place of the marks both poles would be wrong rows.
+abbrev pub twoPoles : Example
+twoPoles =
+    answered (0x02 ∷ 0x00 ∷ 0x41 ∷ 0x00 ∷ 0x00 ∷ 0x08 ∷ 0x00 ∷ numbers (0x0000 ∷ 0xFFFF ∷ 0x0001 ∷ 0xFFFF ∷ 0x0005 ∷ 0xFFFE ∷ 0x0002 ∷ 0x0003 ∷ []))
+    12 0 (0x0000 ∷ 0x0000 ∷ 0x0000 ∷ 0x0006 ∷ 0x0001 ∷ 0x0006 ∷ [])
+
 -- what a call reports and leaves in the area, by demands 1 and 2: for every area of that length, whatever it holds
 abbrev pub ExampleHolds : Example → Type 0
 ExampleHolds e = (area : List ℕ) → length area ≡ e .room → Settled (e .job) area (e .report) (overwritten (e .bytes) area)

@@ -1,6 +1,6 @@
 -- Paper 01, "The job sheet", and paper 02, item 5: a header's fields, one after the other, most significant bit first. A bit that is not there
 -- reads as 0.
-use Prim.Native.Nat.{ℕ, _+_, _*_, _≤_}
+use Prim.Native.Nat.{ℕ, _+_, _*_, _/_, _≤_}
 use mathlib.Core.Bool.{Bool, cond}
 use mathlib.Core.List.{List}
 use lib.Dec.{ltb, eqb}
@@ -31,6 +31,10 @@ numeratorBoundsOf s = tabulate 4 (λ i. cond (eqb (spareBitOf s) 1) (fieldOf s (
 -- "then 12 flag bits"; a short header sets none
 unfoldable pub flagsOf : List ℕ → ℕ
 flagsOf s = cond (eqb (spareBitOf s) 1) (fieldOf s 44 12) 0
+
+-- paper 02, item 6: "the first flag bit" of the twelve; with it rows may carry marks
+abbrev pub marksAllowed : (flags : ℕ) → Bool
+marksAllowed flags = eqb (flags / 2048) 1
 
 -- what the header fixes
 unfoldable pub boundsOf : List ℕ → Bounds

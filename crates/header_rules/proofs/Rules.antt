@@ -1,5 +1,5 @@
 -- What the rules of the longer header say of the bounds.
-use Prim.Native.Nat.{ℕ, _+_, _*_, _≤_, _<_}
+use Prim.Native.Nat.{ℕ, _+_, _*_, _%_, _≤_, _<_}
 use mathlib.Core.Bool.{Bool, true, false, cond, not, _&&_, _||_}
 use mathlib.Core.List.{List}
 use mathlib.Core.Logic.{_⊎_, inl, inr}
@@ -34,9 +34,9 @@ short-or-longer s = by (lt-or-ge (spareBitOf s) 1)
     by (inr l) = inr (omega (arith, field-below s 23 1))
 
 module _ (s : List ℕ) (unbroken : addedHeaderBroken s ≡ false) (longer : spareBitOf s ≡ 1) where
-  rules-kept : (flagsOf s ≡ 0) × (boundsAbsent (boundsOf s) ≡ false) × (dfOf s ≡ largestBound (boundsOf s) (boundsOf s .outputs))
+  rules-kept : (flagsOf s % 2048 ≡ 0) × (boundsAbsent (boundsOf s) ≡ false) × (dfOf s ≡ largestBound (boundsOf s) (boundsOf s .outputs))
   rules-kept =
-      let flags = not (eqb (flagsOf s) 0) in
+      let flags = not (eqb (flagsOf s % 2048) 0) in
       let absent = boundsAbsent (boundsOf s) in
       let df = not (eqb (dfOf s) (largestBound (boundsOf s) (boundsOf s .outputs))) in
       let all : (flags || absent || df) ≡ false = rw longer at unbroken in

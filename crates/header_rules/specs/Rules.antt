@@ -1,5 +1,5 @@
 -- Paper 01's refusal 1 and paper 02's refusal 11, item 5: what the header alone decides. s holds the bytes that it begins.
-use Prim.Native.Nat.{ℕ}
+use Prim.Native.Nat.{ℕ, _%_}
 use mathlib.Core.Bool.{Bool, cond, not, _&&_, _||_}
 use mathlib.Core.List.{List}
 use lib.Dec.{ltb, leb, eqb}
@@ -22,13 +22,13 @@ tooShort s = ltb (length s) (headerLengthOf s)
 abbrev pub boundsAbsent : Bounds → Bool
 boundsAbsent b = anyBelow 4 (λ i. leb (b .outputs) i && not (eqb (numeratorBoundOf b i) 0))
 
--- the longer header sets a flag bit, bounds an output that does not exist, or df is not the largest of those that do
+-- the longer header sets a flag bit other than the first of the twelve, bounds an output that does not exist, or df is not the largest of those that do
 abbrev pub breaksRule : Header → Bool
 breaksRule h =
     eqb (h .length) 7
-    && (not (eqb (h .flags) 0) || boundsAbsent (h .bounds) || not (eqb (h .df) (largestBound (h .bounds) (h .bounds .outputs))))
+    && (not (eqb (h .flags % 2048) 0) || boundsAbsent (h .bounds) || not (eqb (h .df) (largestBound (h .bounds) (h .bounds .outputs))))
 
--- 11: "if the added header breaks a rule here"
+-- 11: "if the added header breaks a rule here"; with item 6 the first flag bit breaks none
 abbrev pub addedHeaderBroken : List ℕ → Bool
 addedHeaderBroken s = breaksRule (headerOf s)
 

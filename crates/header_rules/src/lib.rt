@@ -29,7 +29,7 @@ fn breaks_rule(h: Header) -> bool
         return false;
     }
     let b = h.bounds;
-    (h.flags != 0) | bounds_absent(b) | (h.df != b.largest_bound(b.outputs))
+    (h.flags % 2048 != 0) | bounds_absent(b) | (h.df != b.largest_bound(b.outputs))
 }
 
 // The first of tests 1 and 11 that applies to so many bytes that begin with this header.

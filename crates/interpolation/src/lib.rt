@@ -1,6 +1,6 @@
 // docs/METHOD.md, section 1: two pairs of polynomials, one row at a time. After the rows one of the pairs is (a, b), not both zero, with
-// a(x) = z b(x) at every row (x, z), a of degree at most A and b of degree at most B, for as many rows as A + B + 1.
-// The discrepancies a(x) - z b(x) of both pairs are kept for all rows and changed as the pairs are, so that no polynomial is evaluated.
+// c a(x) = z b(x) at every row (x, z) of weight c, a of degree at most A and b of degree at most B, where A + B + 1 rows at most ask something.
+// The discrepancies c a(x) - z b(x) of both pairs are kept for all rows and changed as the pairs are, so that no polynomial is evaluated.
 ghost use Prim.Native.Nat.{ℕ, _+_, _-_, _%_, _≤_, _<_};
 ghost use mathlib.Core.Path.{_≡_};
 ghost use lib.ListN.{length};
@@ -19,6 +19,19 @@ use pair_step::Side;
 use pair_step::Sides;
 use pairs::Pair;
 use poly::Poly;
+
+// The weights: the discrepancies of the pair (1, 0).
+fn copied(weights: &[u16; 32]) -> PerRow
+    requires { ⌜ ((k : ℕ) → at (now weights) k < 2) ⌝ }
+    ensures { λ r. ⌜ ((k : ℕ) → k < 32 → at (r .v) k ≡ at (now (weights .entry)) k) × Stored 2 (r .v) ⌝ }
+{
+    let mut r = PerRow { v: [0u16; 32] };
+    for k in 0..32 {
+        let c = weights[k];
+        r.v[k] = c;
+    }
+    r
+}
 
 // - z at each row: the discrepancies of the pair (0, 1).
 fn negations(p: u16, z: &[u32; 32], rows: usize) -> PerRow
@@ -76,6 +89,7 @@ fn after_rows(
     q: Prime,
     points: &[u32; 32],
     xs: &[u16; 32],
+    weights: &[u16; 32],
     z: &[u32; 32],
     rows: usize,
     start: Sides,
@@ -84,20 +98,20 @@ fn after_rows(
     a1: &mut [u16; 32],
     b1: &mut [u16; 32],
 ) -> Sides
-    requires { ⌜ Conditions (modulusOf q) (now points) (now z) rows (start .second .e) (start .first .e) × (now xs ≡ formsOf (modulusOf q) (now points) rows)
+    requires { ⌜ Conditions (modulusOf q) (now points) (now weights) (now z) rows (start .second .e) (start .first .e) × (now xs ≡ formsOf (modulusOf q) (now points) rows)
         × (start .first .n ≡ 1) × (start .second .n ≡ 1)
         × (now a0 ≡ onePoly .c) × (now b0 ≡ zeroPoly .c) × (now a1 ≡ zeroPoly .c) × (now b1 ≡ onePoly .c) ⌝ }
     ensures { λ s. ⌜
         (pairsOf (pairOf (now (a0 .exit)) (now (b0 .exit)) (s .first .e)) (pairOf (now (a1 .exit)) (now (b1 .exit)) (s .second .e))
-        ≡ pairsAfter (modulusOf q) (now (points .entry)) (now (z .entry)) (start .second .e) (start .first .e) rows)
+        ≡ pairsAfter (modulusOf q) (now (points .entry)) (now (weights .entry)) (now (z .entry)) (start .second .e) (start .first .e) rows)
         × PairHeld (modulusOf q) (rows + 1) (now (a0 .exit)) (now (b0 .exit)) × PairHeld (modulusOf q) (rows + 1) (now (a1 .exit)) (now (b1 .exit)) ⌝ }
 {
     let p = field::modulus(q) as u16;
     let ps = [p; 32];
     let v = montgomery::inverse(q);
     let vs = [v; 32];
-    // (1, 0) has the discrepancy 1 at every row, and would have c where a condition were c a(x) = z b(x).
-    let mut d0 = [1u16; 32];
+    let copy = copied(weights);
+    let mut d0 = copy.v;
     let negated = negations(p, z, rows);
     let mut d1 = negated.v;
     let mut s = start;
@@ -130,18 +144,19 @@ fn paired(a: &[u16; 32], b: &[u16; 32], e: usize) -> Pair
     }
 }
 
-// The pair with the smaller number. Beside the points stand their forms, which all outputs share.
+// The pair with the smaller number. Beside the points stand their forms, which all outputs share, and the rows' weights.
 pub fn solution(
     q: Prime,
     points: &[u32; 32],
     xs: &[u16; 32],
+    weights: &[u16; 32],
     z: &[u32; 32],
     rows: usize,
     bound_a: usize,
     bound_b: usize,
 ) -> Pair
-    requires { ⌜ Conditions (modulusOf q) (now points) (now z) rows «bound_a» «bound_b» × (now xs ≡ formsOf (modulusOf q) (now points) rows) ⌝ }
-    ensures { λ r. ⌜ (r ≡ solutionOf (modulusOf q) (now (points .entry)) (now (z .entry)) «bound_a» «bound_b» rows)
+    requires { ⌜ Conditions (modulusOf q) (now points) (now weights) (now z) rows «bound_a» «bound_b» × (now xs ≡ formsOf (modulusOf q) (now points) rows) ⌝ }
+    ensures { λ r. ⌜ (r ≡ solutionOf (modulusOf q) (now (points .entry)) (now (weights .entry)) (now (z .entry)) «bound_a» «bound_b» rows)
         × PairBounded (modulusOf q) (rows + 1) r ⌝ }
 {
     let mut a0 = [0u16; 32];
@@ -154,6 +169,7 @@ pub fn solution(
         q,
         points,
         xs,
+        weights,
         z,
         rows,
         started(bound_b, bound_a),

@@ -1,20 +1,32 @@
 -- Tests 5 and 6 on the arrays are those on the bytes.
-use mathlib.Core.Bool.{_||_}
+use mathlib.Core.Bool.{Bool, false, _&&_, _||_}
 use mathlib.Core.List.{List}
-use mathlib.Core.Path.{_≡_, ap, ap₂, _∙_}
-use Prim.Native.Nat.{ℕ, _+_, _*_, _<_}
+use mathlib.Core.Path.{_≡_, refl, ap, ap₂, _∙_}
+use Prim.Native.Nat.{ℕ, _+_, _*_, _≤_, _<_}
 use native.Mathlib.Omega.{arith}
 use lib.Dec.{leb, eqb}
 use lib.ListN.{getD}
+use borrow.Author.Tests.{lt-leb}
 use Rattle.field.specs.Primes.{modulusOf}
+use Rattle.field.proofs.Moduli.{modulus-prime}
 use Rattle.format.specs.declared.Bounds.{Bounds}
 use Rattle.row_search.specs.declared.Found.{Found}
 use Rattle.header.specs.Header.{boundsOf}
-use Rattle.rows.specs.Rows.{jobPoint, jobPoints, jobValues}
+use Rattle.rows.specs.Rows.{jobPoint, jobValue}
+use Rattle.marked_rows.specs.declared.Mark.{Mark}
+use Rattle.marked_rows.specs.declared.Mark.the-variants.{None, Pole, Silent}
+use Rattle.marked_rows.specs.Marks.{markAt, isUnmarked}
+use Rattle.marked_rows.specs.Table.{sideOf, jobPoints, jobValues}
 use Rattle.job.specs.Refusals.{outOfRange, repeatedPoint}
 use Rattle.row_search.specs.Search.{firstBelow, anyBelow, isFound}
-use Rattle.row_search.proofs.FirstBelow.{first-cong}
-use Rattle.rows.proofs.Entries.{points-at, values-at}
+use Rattle.row_search.proofs.FirstBelow.{first-cong, none-below}
+use Rattle.marked_rows.proofs.Entries.{points-at, values-at}
+
+-- what stands for the values of a marked row is below p
+pub values-in-table : (m : Mark) (p n : ℕ) (y : ℕ → ℕ) → 2 ≤ p → anyBelow n (λ i. leb p (sideOf m (y i))) ≡ (isUnmarked m && anyBelow n (λ i. leb p (y i)))
+values-in-table None p n y two = refl
+values-in-table Pole p n y two = ap isFound (none-below _ n (λ i l. lt-leb p 1 (omega arith)))
+values-in-table Silent p n y two = ap isFound (none-below _ n (λ i l. lt-leb p 0 (omega arith)))
 
 module _ (s : List ℕ) where
   out-of-range-same : firstBelow (boundsOf s .rows)
@@ -26,7 +38,8 @@ module _ (s : List ℕ) where
       let p = modulusOf (boundsOf s .prime) in
       first-cong (boundsOf s .rows) _ _ λ r l.
       ap₂ _||_ (ap (leb p) (points-at s r l))
-      (ap isFound (first-cong (boundsOf s .outputs) _ _ (λ i m. ap (leb p) (values-at s r i l m))))
+      (ap isFound (first-cong (boundsOf s .outputs) _ _ (λ i m. ap (leb p) (values-at s r i l m)))
+      ∙ values-in-table (markAt s r) p (boundsOf s .outputs) (jobValue s r) (modulus-prime (boundsOf s .prime) .two))
 
   -- whatever stands behind the rows' points
   pub repeated-same : (points : List ℕ) → ((r : ℕ) → r < boundsOf s .rows → getD points r 0 ≡ jobPoint s r)

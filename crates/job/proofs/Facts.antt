@@ -1,5 +1,5 @@
 -- What a job's tests say where they do not apply.
-use mathlib.Core.Bool.{Bool, true, false, not, _||_, true≢false}
+use mathlib.Core.Bool.{Bool, true, false, not, _&&_, _||_, true≢false}
 use mathlib.Core.List.{List}
 use mathlib.Core.Logic.{_⊎_, inl, inr, ⊎-elim}
 use mathlib.Core.Path.{_≡_, refl, sym, ap, ap₂, _∙_}
@@ -13,7 +13,7 @@ use Rattle.lists.proofs.Truth.{clash, or-false}
 use Rattle.field.specs.Primes.{modulusOf}
 use Rattle.format.specs.Bounds.{numeratorBoundOf, answerLengthOf}
 use Rattle.format.specs.declared.Reason.{Reason}
-use Rattle.format.specs.declared.Reason.the-variants.{TooShort, AddedHeader, ByteCount, TooFewRows, OutOfRange, RepeatedPoint, AreaTooShort}
+use Rattle.format.specs.declared.Reason.the-variants.{TooShort, AddedHeader, ByteCount, TooFewRows, OutOfRange, TooFewSpeaking, RepeatedPoint, AreaTooShort}
 use Rattle.format.specs.declared.Outcome.{Outcome}
 use Rattle.format.specs.declared.Outcome.the-variants.{Accepted, Refused}
 use Rattle.header.specs.Header.{boundsOf, headerOf, jobLengthOf, rowsNeededOf, Narrow}
@@ -24,13 +24,15 @@ use Rattle.row_search.specs.declared.Found.{Found}
 use Rattle.row_search.specs.declared.Found.the-variants.{At, Nothing}
 use Rattle.row_search.specs.Search.{firstBelow, ifHolds, isFound}
 use Rattle.rows.specs.Rows.{jobPoint, jobValue}
+use Rattle.marked_rows.specs.Marks.{markAt, isUnmarked, speakingCount}
 use Rattle.lists.proofs.Order.{lt-or-ge}
 use Rattle.row_search.proofs.FirstBelow.{at-not-nothing, none-passes, any-passes, none-below}
-use Rattle.job.proofs.Deciding.{past-4, accepted}
+use Rattle.job.proofs.Deciding.{past-4, past-6, accepted}
 use Rattle.job.specs.Refusals.{
   byteCountDiffers,
   tooFewRows,
   outOfRange,
+  tooFewSpeaking,
   repeatedPoint,
   areaTooShort,
   refuse,
@@ -46,11 +48,11 @@ module _ (s : List ℕ) (not-5 : firstBelow (boundsOf s .rows) (outOfRange s) �
   pub points-below : (r : ℕ) → r < boundsOf s .rows → jobPoint s r < modulusOf (boundsOf s .prime)
   points-below r l = leb-false _ _ (or-false _ _ (in-range r l) .0)
 
-  pub values-below : (r i : ℕ) → r < boundsOf s .rows → i < boundsOf s .outputs → jobValue s r i < modulusOf (boundsOf s .prime)
-  values-below r i l m =
+  pub values-below : (r i : ℕ) → r < boundsOf s .rows → i < boundsOf s .outputs → isUnmarked (markAt s r) ≡ true → jobValue s r i < modulusOf (boundsOf s .prime)
+  values-below r i l m unmarked =
       let p = modulusOf (boundsOf s .prime) in
-      leb-false _ _
-      (any-passes (λ j. leb p (jobValue s r j)) (boundsOf s .outputs) (or-false (leb p (jobPoint s r)) _ (in-range r l) .1) i m)
+      let range = or-false (leb p (jobPoint s r)) _ (in-range r l) .1 in
+      leb-false _ _ (any-passes (λ j. leb p (jobValue s r j)) (boundsOf s .outputs) (rw unmarked at range) i m)
 
 module _ (s : List ℕ) (not-6 : firstBelow (boundsOf s .rows) (repeatedPoint s) ≡ Nothing) where
   earlier-differs : (q r : ℕ) → q < r → r < boundsOf s .rows → jobPoint s q ≡ jobPoint s r → ⊥
@@ -72,7 +74,8 @@ pub record WellFormedFacts (s : List ℕ) (area : ℕ) : Type 0 where
   pub byte-count : length s ≡ jobLengthOf (headerOf s)
   pub enough-rows : rowsNeededOf (headerOf s) ≤ boundsOf s .rows
   pub points-in-range : (r : ℕ) → r < boundsOf s .rows → jobPoint s r < modulusOf (boundsOf s .prime)
-  pub values-in-range : (r i : ℕ) → r < boundsOf s .rows → i < boundsOf s .outputs → jobValue s r i < modulusOf (boundsOf s .prime)
+  pub values-in-range : (r i : ℕ) → r < boundsOf s .rows → i < boundsOf s .outputs → isUnmarked (markAt s r) ≡ true → jobValue s r i < modulusOf (boundsOf s .prime)
+  pub enough-speaking : rowsNeededOf (headerOf s) ≤ speakingCount s
   pub distinct : (q r : ℕ) → q < boundsOf s .rows → r < boundsOf s .rows → jobPoint s q ≡ jobPoint s r → q ≡ r
   pub enough-area : answerLengthOf (boundsOf s) ≤ area
 
@@ -97,7 +100,8 @@ module _ (s : List ℕ) (area : ℕ) where
       let t3 = passed ByteCount (ifHolds (byteCountDiffers s) 0) _ (t2 .1) in
       let t4 = passed TooFewRows (ifHolds (tooFewRows s) 0) _ (t3 .1) in
       let t5 = passed OutOfRange (firstBelow (boundsOf s .rows) (outOfRange s)) _ (t4 .1) in
-      let t6 = passed RepeatedPoint (firstBelow (boundsOf s .rows) (repeatedPoint s)) _ (t5 .1) in
+      let t12 = passed TooFewSpeaking (ifHolds (tooFewSpeaking s) 0) _ (t5 .1) in
+      let t6 = passed RepeatedPoint (firstBelow (boundsOf s .rows) (repeatedPoint s)) _ (t12 .1) in
       let t7 = passed AreaTooShort (ifHolds (areaTooShort s area) 0) _ (t6 .1) in
       record {
         fields = narrow s;
@@ -106,6 +110,7 @@ module _ (s : List ℕ) (area : ℕ) where
         enough-rows = ltb-false _ _ (does-not-hold (tooFewRows s) (t4 .0));
         points-in-range = points-below s (t5 .0);
         values-in-range = values-below s (t5 .0);
+        enough-speaking = ltb-false _ _ (does-not-hold (tooFewSpeaking s) (t12 .0));
         distinct = points-distinct s (t6 .0);
         enough-area = ltb-false _ _ (does-not-hold (areaTooShort s area) (t7 .0));
       }
@@ -115,17 +120,27 @@ module _ (s : List ℕ) (area : ℕ) where
   facts-well-formed h =
       let in-range : (r : ℕ) → r < boundsOf s .rows → outOfRange s r ≡ false =
       λ r l. ap₂ _||_ (lt-leb _ _ (h .points-in-range r l))
-      (ap isFound (none-below (λ i. leb (modulusOf (boundsOf s .prime)) (jobValue s r i)) _ (λ i m. lt-leb _ _ (h .values-in-range r i l m)))) in
+      (when-true (isUnmarked (markAt s r)) _ (λ unmarked.
+      ap isFound (none-below (λ i. leb (modulusOf (boundsOf s .prime)) (jobValue s r i)) _ (λ i m. lt-leb _ _ (h .values-in-range r i l m unmarked))))) in
       let new-point : (r : ℕ) → r < boundsOf s .rows → repeatedPoint s r ≡ false =
       λ r l. ap isFound (none-below (λ q. eqb (jobPoint s q) (jobPoint s r)) r (λ q m. ne-eqb _ _ (later q r m l))) in
       past-4 s area (le-ltb (length s) (headerOf s .length) (omega (arith, h .byte-count))) (h .rules)
       (ap not (eq-eqb _ _ (h .byte-count))) (le-ltb _ _ (h .enough-rows))
-      ∙ accepted s area (none-below (outOfRange s) _ in-range) (none-below (repeatedPoint s) _ new-point) (le-ltb _ _ (h .enough-area))
+      ∙ accepted s area (le-ltb _ _ (h .enough-area))
+      (past-6 s Accepted (none-below (outOfRange s) _ in-range) (le-ltb _ _ (h .enough-speaking)) (none-below (repeatedPoint s) _ new-point))
     where
+      when-true : (a b : Bool) → (a ≡ true → b ≡ false) → (a && b) ≡ false
+      when-true true b h = h refl
+      when-true false b h = refl
+
       later : (q r : ℕ) → q < r → r < boundsOf s .rows → jobPoint s q ≡ jobPoint s r → ⊥
       later q r m l e = let same = h .distinct q r (omega arith) l e in omega arith
 
--- enough rows for df are enough for the bound of each output
+-- enough rows for df, and enough that speak, are enough for the bound of each output
 pub each-enough : {s : List ℕ} {area : ℕ} → WellFormedFacts s area → (i : ℕ)
     → numeratorBoundOf (boundsOf s) i + boundsOf s .dg + 2 * boundsOf s .errors + 1 ≤ boundsOf s .rows
 each-enough {s} h i = omega (arith, bound-within-df s (h .rules) i, h .enough-rows)
+
+pub each-speaking : {s : List ℕ} {area : ℕ} → WellFormedFacts s area → (i : ℕ)
+    → numeratorBoundOf (boundsOf s) i + boundsOf s .dg + 2 * boundsOf s .errors + 1 ≤ speakingCount s
+each-speaking {s} h i = omega (arith, bound-within-df s (h .rules) i, h .enough-speaking)

@@ -9,7 +9,7 @@ use native.Mathlib.Omega.{arith}
 use borrow.Author.Tests.{le-ltb}
 use Rattle.format.specs.Bounds.{answerLengthOf}
 use Rattle.format.specs.declared.Reason.{Reason}
-use Rattle.format.specs.declared.Reason.the-variants.{TooShort, AddedHeader, ByteCount, TooFewRows, OutOfRange, RepeatedPoint, AreaTooShort}
+use Rattle.format.specs.declared.Reason.the-variants.{TooShort, AddedHeader, ByteCount, TooFewRows, OutOfRange, TooFewSpeaking, RepeatedPoint, AreaTooShort}
 use Rattle.format.specs.declared.Outcome.{Outcome}
 use Rattle.format.specs.declared.Outcome.the-variants.{Accepted, Refused}
 use Rattle.format.specs.Outcomes.{numberOf, reportOf}
@@ -23,6 +23,7 @@ use Rattle.job.specs.Refusals.{
   byteCountDiffers,
   tooFewRows,
   outOfRange,
+  tooFewSpeaking,
   repeatedPoint,
   areaTooShort,
   refuse,
@@ -41,11 +42,11 @@ pub refuse-decisive : (Given : Reason → Type 0) (reason : Reason) (f : Found) 
 refuse-decisive Given reason (At row) tests given d = inl (reason, row, given, λ later. refl)
 refuse-decisive Given reason Nothing tests given d = d
 
--- the number of a refusal before m, or 11; 2 is none
+-- the number of a refusal before m, or 11 or 12; 2 is none
 abbrev pub Given : (m n : ℕ) → Type 0
-Given m n = (0 < n) × (n ≡ 2 → ⊥) × (m ≤ n → n ≡ 11)
+Given m n = (0 < n) × (n ≡ 2 → ⊥) × (m ≤ n → (11 ≤ n) × (n ≤ 12))
 
--- the reasons of tests 1, 11 and 3 to 6
+-- the reasons of tests 1, 11, 3, 4, 5, 12 and 6
 abbrev pub OfForm : Reason → Type 0
 OfForm reason = Given 7 (numberOf reason)
 
@@ -67,7 +68,8 @@ module _ (s : List ℕ) where
       (refuse-decisive OfForm ByteCount (ifHolds (byteCountDiffers s) 0) _ (omega arith)
       (refuse-decisive OfForm TooFewRows (ifHolds (tooFewRows s) 0) _ (omega arith)
       (refuse-decisive OfForm OutOfRange (firstBelow (boundsOf s .rows) (outOfRange s)) _ (omega arith)
-      (refuse-decisive OfForm RepeatedPoint (firstBelow (boundsOf s .rows) (repeatedPoint s)) (λ later. later) (omega arith) (inr (λ later. refl)))))))
+      (refuse-decisive OfForm TooFewSpeaking (ifHolds (tooFewSpeaking s) 0) _ (omega arith)
+      (refuse-decisive OfForm RepeatedPoint (firstBelow (boundsOf s .rows) (repeatedPoint s)) (λ later. later) (omega arith) (inr (λ later. refl))))))))
 
   pub by-form : ByForm
   unfolding outcomeOf outcomeOfRows

@@ -13,8 +13,8 @@ use Rattle.format.specs.declared.Outcome.the-variants.{Accepted, Recovered, Ref
 use Rattle.row_search.specs.Search.{ifHolds}
 use Rattle.header.specs.Header.{headerOf, jobLengthOf}
 use Rattle.header_rules.specs.Rules.{tooShort, addedHeaderBroken}
-use Rattle.job.specs.Refusals.{byteCountDiffers, tooFewRows, refuse, outcomeOfRows, outcomeOf}
-use Rattle.job.specs.Form.{headerOutcomeOf, firstTests, rowTests}
+use Rattle.job.specs.Refusals.{byteCountDiffers, tooFewRows, refuse, rowTests, outcomeOfRows, outcomeOf}
+use Rattle.job.specs.Form.{headerOutcomeOf, firstTests}
 use Rattle.job.proofs.Facts.{refused-not-accepted}
 
 -- a refusal by the header, and otherwise what the tests of the rows say

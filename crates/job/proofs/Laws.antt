@@ -1,5 +1,5 @@
 -- What paper 01 says of jobs, for every job.
-use mathlib.Core.Bool.{false, not}
+use mathlib.Core.Bool.{Bool, true, false, not}
 use mathlib.Core.List.{List}
 use mathlib.Core.Logic.{_⊎_, inl, inr}
 use mathlib.Core.Path.{_≡_, refl, ap, _∙_}
@@ -11,7 +11,7 @@ use lib.ListN.{length}
 use Rattle.field.specs.Primes.{modulusOf}
 use Rattle.format.specs.Bounds.{answerLengthOf}
 use Rattle.format.proofs.Sizes.{counts-most}
-use Rattle.format.specs.declared.Reason.the-variants.{TooFewRows, OutOfRange, RepeatedPoint}
+use Rattle.format.specs.declared.Reason.the-variants.{TooFewRows, OutOfRange, TooFewSpeaking, RepeatedPoint}
 use Rattle.format.specs.declared.Outcome.{Outcome}
 use Rattle.format.specs.declared.Outcome.the-variants.{Accepted, Recovered, Refused}
 use Rattle.header.specs.Header.{dfOf, boundsOf, spareBitOf, headerLengthOf, headerOf, jobLengthOf, rowsNeededOf}
@@ -22,9 +22,9 @@ use Rattle.row_search.specs.declared.Found.{Found}
 use Rattle.row_search.specs.declared.Found.the-variants.{At, Nothing}
 use Rattle.row_search.specs.Search.{firstBelow}
 use Rattle.rows.specs.Rows.{jobPoint}
-use Rattle.job.specs.Refusals.{byteCountDiffers, tooFewRows, outOfRange, repeatedPoint, outcomeOfRows, outcomeOf, WellFormed}
+use Rattle.job.specs.Refusals.{byteCountDiffers, tooFewRows, outOfRange, tooFewSpeaking, repeatedPoint, outcomeOfRows, outcomeOf, WellFormed}
 use Rattle.job.specs.Reading.{readingWith, readingOf}
-use Rattle.job.proofs.Deciding.{at-4, at-5, at-6, past-4}
+use Rattle.job.proofs.Deciding.{at-4, at-5, at-12, at-6, past-4}
 use Rattle.job.proofs.Facts.{well-formed-facts, points-below, points-distinct}
 use Rattle.job.proofs.Pigeonhole.{pigeonhole}
 
@@ -47,25 +47,32 @@ module _ (s : List ℕ) (area : ℕ) where
       at-4 s area (le-ltb (length s) (headerLengthOf s) (omega arith)) (short-unbroken s spare)
       (ap not (eq-eqb (length s) (jobLengthOf (headerOf s)) bytes)) (lt-ltb (boundsOf s .rows) (rowsNeededOf (headerOf s)) (omega arith))
 
-  -- "More than p rows, where 1 to 4 don't apply, meet 5 or 6."
+  -- one of tests 5, 12 and 6 refuses the job
+  abbrev pub RefusedByRows : Type 0
+  RefusedByRows =
+      ((r : ℕ) × (outcomeOf s area ≡ Refused OutOfRange r)) ⊎ ((outcomeOf s area ≡ Refused TooFewSpeaking 0) ⊎ ((r : ℕ) × (outcomeOf s area ≡ Refused RepeatedPoint r)))
+
+  -- "More than p rows, where 1 to 4 don't apply, meet 5 or 6", and with paper 02, item 6, "may meet 12 as well"
   pub too-many-rows : tooShort s ≡ false → addedHeaderBroken s ≡ false → byteCountDiffers s ≡ false → tooFewRows s ≡ false
-      → modulusOf (boundsOf s .prime) < boundsOf s .rows
-      → ((r : ℕ) × (outcomeOf s area ≡ Refused OutOfRange r)) ⊎ ((r : ℕ) × (outcomeOf s area ≡ Refused RepeatedPoint r))
+      → modulusOf (boundsOf s .prime) < boundsOf s .rows → RefusedByRows
+  unfolding outcomeOfRows
   too-many-rows n1 n11 n3 n4 many = five (firstBelow (boundsOf s .rows) (outOfRange s)) refl
     where
       past : outcomeOf s area ≡ outcomeOfRows s area
       past = past-4 s area n1 n11 n3 n4
 
-      six : firstBelow (boundsOf s .rows) (outOfRange s) ≡ Nothing → (f : Found) → firstBelow (boundsOf s .rows) (repeatedPoint s) ≡ f
-          → ((r : ℕ) × (outcomeOf s area ≡ Refused OutOfRange r)) ⊎ ((r : ℕ) × (outcomeOf s area ≡ Refused RepeatedPoint r))
-      six n5 (At r) e = inr (r, past ∙ at-6 s area n5 e)
-      six n5 Nothing e =
+      six : firstBelow (boundsOf s .rows) (outOfRange s) ≡ Nothing → tooFewSpeaking s ≡ false → (f : Found) → firstBelow (boundsOf s .rows) (repeatedPoint s) ≡ f → RefusedByRows
+      six n5 n12 (At r) e = inr (inr (r, past ∙ at-6 s _ n5 n12 e))
+      six n5 n12 Nothing e =
           absurd (let h = pigeonhole (boundsOf s .rows) (modulusOf (boundsOf s .prime)) (jobPoint s) (points-below s n5) (points-distinct s e) in omega arith)
 
-      five : (f : Found) → firstBelow (boundsOf s .rows) (outOfRange s) ≡ f
-          → ((r : ℕ) × (outcomeOf s area ≡ Refused OutOfRange r)) ⊎ ((r : ℕ) × (outcomeOf s area ≡ Refused RepeatedPoint r))
-      five (At r) e = inl (r, past ∙ at-5 s area e)
-      five Nothing e = six e (firstBelow (boundsOf s .rows) (repeatedPoint s)) refl
+      twelve : firstBelow (boundsOf s .rows) (outOfRange s) ≡ Nothing → (b : Bool) → tooFewSpeaking s ≡ b → RefusedByRows
+      twelve n5 true e = inr (inl (past ∙ at-12 s _ n5 e))
+      twelve n5 false e = six n5 e (firstBelow (boundsOf s .rows) (repeatedPoint s)) refl
+
+      five : (f : Found) → firstBelow (boundsOf s .rows) (outOfRange s) ≡ f → RefusedByRows
+      five (At r) e = inl (r, past ∙ at-5 s _ e)
+      five Nothing e = twelve e (tooFewSpeaking s) refl
 
 outcome-kept : (o : Outcome) (s : List ℕ) → readingWith o s .outcome ≡ o
 outcome-kept Accepted s = refl

@@ -1,4 +1,4 @@
--- The tests before 8 answer with Accepted, or with a refusal numbered 1, 11 or 3 to 7; where the area is as long as the answer, 7 is none.
+-- The tests before 8 answer with Accepted, or with a refusal numbered 1, 11, 12 or 3 to 7; where the area is as long as the answer, 7 is none.
 use mathlib.Core.Path.{_≡_, ap, _∙_}
 use mathlib.Core.Logic.{_⊎_, inl, inr}
 use mathlib.Core.Bool.{Bool, true, false}
@@ -16,7 +16,7 @@ use Rattle.header.specs.Header.{boundsOf}
 use Rattle.job.specs.Refusals.{areaTooShort, refuse, outcomeOf}
 use Rattle.job.proofs.Forms.{Given, ByForm, by-form, long-enough}
 
--- Accepted, or a refusal numbered below m, or 11
+-- Accepted, or a refusal numbered below m, or 11 or 12
 abbrev pub EarlyBelow : ℕ → Outcome → Type 0
 EarlyBelow m o = (o ≡ Accepted) ⊎ Given m (reportOf o .refusal)
 

@@ -1,23 +1,18 @@
--- Paper 02, item 4: "checks thousands of jobs for form only". Tests 1, 11 and 3 to 6, which need no answer area.
+-- Paper 02, item 4: "checks thousands of jobs for form only". Tests 1, 11, 3, 4, 5, 12 and 6, which need no answer area.
 use Prim.Native.Nat.{ℕ}
 use mathlib.Core.Bool.{cond, not}
 use mathlib.Core.List.{List}
 use lib.Dec.{ltb, eqb}
-use Rattle.format.specs.declared.Reason.the-variants.{TooShort, AddedHeader, ByteCount, TooFewRows, OutOfRange, RepeatedPoint}
+use Rattle.format.specs.declared.Reason.the-variants.{TooShort, AddedHeader, ByteCount, TooFewRows}
 use Rattle.format.specs.declared.Outcome.{Outcome}
 use Rattle.format.specs.declared.Outcome.the-variants.{Accepted, Refused}
-use Rattle.row_search.specs.Search.{ifHolds, firstBelow}
+use Rattle.row_search.specs.Search.{ifHolds}
 use Rattle.header.specs.declared.Header.{Header}
-use Rattle.header.specs.Header.{boundsOf, jobLengthOf, rowsNeededOf}
+use Rattle.header.specs.Header.{jobLengthOf, rowsNeededOf}
 use Rattle.header_rules.specs.Rules.{tooShort, addedHeaderBroken, examinedThen}
-use Rattle.job.specs.Refusals.{byteCountDiffers, tooFewRows, outOfRange, repeatedPoint, refuse}
+use Rattle.job.specs.Refusals.{byteCountDiffers, tooFewRows, refuse, rowTests}
 
--- tests 5 and 6, and where neither applies what the later ones say: of 5 "first such row", of 6 "first such later row"
-abbrev pub rowTests : List ℕ → Outcome → Outcome
-rowTests s later =
-    refuse OutOfRange (firstBelow (boundsOf s .rows) (outOfRange s)) (refuse RepeatedPoint (firstBelow (boundsOf s .rows) (repeatedPoint s)) later)
-
--- tests 1, 11 and 3 to 6 in their order, and where none applies what the later ones say
+-- tests 1, 11, 3, 4, 5, 12 and 6 in this order, and where none applies what the later ones say
 abbrev pub firstTests : List ℕ → Outcome → Outcome
 firstTests s later =
     refuse TooShort (ifHolds (tooShort s) 0)

@@ -1,4 +1,4 @@
-// Reading a job: the refusals 1, 11 and 3 to 7 in their order, and the header's fields and rows of a job that meets none.
+// Reading a job: the refusals 1, 11, 3, 4, 5, 12, 6 and 7 in this order, and the header's fields and rows of a job that meets none.
 pub mod header_check;
 pub mod reading;
 

@@ -1,8 +1,13 @@
 // A job as a whole.
+ghost use mathlib.Core.List.{List};
 ghost use mathlib.Core.Path.{_≡_};
+ghost use Prim.Native.Nat.{ℕ};
 ghost use lib.ListN.{length};
+ghost use Rattle.format.specs.declared.Outcome.the-variants.{Accepted};
 ghost use Rattle.header.specs.Header.{headerOf, jobLengthOf, NarrowHeader};
-ghost use Rattle.job.specs.Refusals.{outcomeOfRows};
+ghost use Rattle.marked_rows.specs.Marks.{speakingCount};
+ghost use Rattle.marked_rows.specs.Table.{jobPoints, jobValues};
+ghost use Rattle.job.specs.Refusals.{rowTests, outcomeOfRows};
 ghost use Rattle.job.specs.Reading.{refusedReading, readingWith, readingOf};
 use crate::header_check::check_header;
 use field::Prime;
@@ -11,17 +16,21 @@ use format::Outcome;
 use format::Reason;
 use header::Header;
 use header::read_header;
+use header::rows_needed;
+use marked_rows::read_table;
 use row_search::Found;
 use row_search::first_out_of_range;
 use row_search::first_repeated;
-use rows::read_rows;
 
-// The outcome, and where it is Accepted the header's fields and the rows: the value of output i in row r stands at 4 r + i.
+// The outcome, and where it is Accepted the header's fields, the rows by their conditions, and how many of them speak: row r's point and weight stand
+// at r, its value for output i at 4 r + i.
 pub struct Reading {
     pub outcome: Outcome,
     pub bounds: Bounds,
     pub points: [u32; 32],
+    pub weights: [u16; 32],
     pub values: [u32; 128],
+    pub speaking: usize,
 }
 
 // A refused job's reading: zeros beside the outcome.
@@ -42,49 +51,74 @@ fn refused(reason: Reason, row: u32) -> Reading
         errors: 0,
     };
     let points = [0u32; 32];
+    let weights = [0u16; 32];
     let values = [0u32; 128];
     Reading {
         outcome: outcome,
         bounds: bounds,
         points: points,
+        weights: weights,
         values: values,
+        speaking: 0,
     }
 }
 
-// Tests 5 to 7, where the earlier ones do not apply.
+// Tests 5, 12 and 6, where the earlier ones do not apply.
+fn check_table(header: Header, points: &[u32; 32], values: &[u32; 128], speaking: usize) -> Outcome
+    requires { ⌜ NarrowHeader header ⌝ }
+    ensures { λ r. ⌜ ((s : List ℕ) → header ≡ headerOf s → now (points .entry) ≡ jobPoints s → now (values .entry) ≡ jobValues s → speaking ≡ speakingCount s → r ≡ rowTests s Accepted) ⌝ }
+{
+    let bounds = header.bounds;
+    let count = bounds.rows;
+    let prime = bounds.prime;
+    let p = field::modulus(prime);
+    if let Found::At(row) = first_out_of_range(points, values, count, bounds.outputs, p) {
+        return Outcome::Refused {
+            reason: Reason::OutOfRange,
+            row: row,
+        };
+    }
+    if speaking < rows_needed(header) {
+        return Outcome::Refused {
+            reason: Reason::TooFewSpeaking,
+            row: 0,
+        };
+    }
+    if let Found::At(row) = first_repeated(points, count) {
+        return Outcome::Refused {
+            reason: Reason::RepeatedPoint,
+            row: row,
+        };
+    }
+    Outcome::Accepted
+}
+
+// Tests 5, 12, 6 and 7, where the earlier ones do not apply.
 fn read_body(job: &[u8], header: Header, area: usize) -> Reading
     requires { ⌜ (header ≡ headerOf (now job)) × NarrowHeader header × (length (now job) ≡ jobLengthOf header) ⌝ }
     ensures { λ r. ⌜ r ≡ readingWith (outcomeOfRows (now (job .entry)) area) (now (job .entry)) ⌝ }
 {
     let bounds = header.bounds;
-    let count = bounds.rows;
-    let outputs = bounds.outputs;
-    let prime = bounds.prime;
-    let p = field::modulus(prime);
-    let rows = read_rows(job, header.length, count, outputs);
-    let points = rows.points;
-    let values = rows.values;
-    match first_out_of_range(&points, &values, count, outputs, p) {
-        Found::At(row) => {
-            return refused(Reason::OutOfRange, row);
-        }
-        Found::Nothing => {}
-    }
-    match first_repeated(&points, count) {
-        Found::At(row) => {
-            return refused(Reason::RepeatedPoint, row);
-        }
-        Found::Nothing => {}
+    let marks = header.flags / 2048 == 1;
+    let table = read_table(job, header.length, bounds.rows, bounds.outputs, marks);
+    let points = table.points;
+    let values = table.values;
+    let checked = check_table(header, &points, &values, table.speaking);
+    if let Outcome::Refused { reason, row } = checked {
+        return refused(reason, row);
     }
     if area < bounds.answer_length() {
         return refused(Reason::AreaTooShort, 0);
     }
     let outcome = Outcome::Accepted;
+    let weights = table.weights;
     Reading {
         outcome: outcome,
         bounds: bounds,
         points: points,
+        weights: weights,
         values: values,
+        speaking: table.speaking,
     }
 }
 

@@ -21,5 +21,5 @@ pub record JudgedRecovery (s area : List ℕ) (r : Report) (after a : List ℕ) 
   pub unsolvable : r .refusal ≡ 8 → length a ≡ answerLengthOf (boundsOf s) → j ≡ noReport
   -- in both cases 3 for everything of another length
   pub other-length : (r .refusal ≡ 0) ⊎ (r .refusal ≡ 8) → (length a ≡ answerLengthOf (boundsOf s) → ⊥) → j ≡ unjudgedReport 3 0
-  -- where one of 1, 11 and 3 to 6 refuses the job, both calls name the same number and row
+  -- where one of 1, 11, 3, 4, 5, 12 and 6 refuses the job, both calls name the same number and row
   pub refused : 0 < r .refusal → (r .refusal ≡ 7 → ⊥) → (r .refusal ≡ 8 → ⊥) → j ≡ unjudgedReport (r .refusal) (r .row)

@@ -3,7 +3,7 @@ use mathlib.Core.Path.{_≡_, refl, _∙_, ap}
 use mathlib.Core.Logic.{_≢_}
 use Prim.Native.Nat.{ℕ, suc, _+_, _≤_, _<_}
 use native.Mathlib.Omega.{arith}
-use Rattle.algebra.proofs.Counting.{below-suc}
+use Rattle.algebra.proofs.Counting.{below-suc, dec-and, failures, failures-zero, failures-holds, failures-fails}
 use Rattle.algebra.proofs.Ring.{Ring, ring, mul-null}
 use Rattle.algebra.proofs.Series.{Series, nullS, constS, mulS, nullS-at}
 use Rattle.algebra.proofs.Bounds.{Below, below-mono, below-constS}
@@ -11,7 +11,7 @@ use Rattle.algebra.proofs.Value.{value, linear}
 use Rattle.algebra.proofs.Field.{Field}
 use Rattle.method.proofs.PairLaws.{combine, value-combine, below-combine, below-linear-mul, value-linear-within, Leading, leading-linear, leading-combine, leading-one}
 
--- the condition c a(x) = z b(x): c = 1 for a value z, and c = 0, z = 1 for a pole
+-- the condition c a(x) = z b(x)
 pub record Condition (R : Ring) : Type 0 where
   pub x : R .Carrier
   pub c : R .Carrier
@@ -36,6 +36,13 @@ module _ (R : Ring) where
   pub discrepancy-at : (N : ℕ) (r : Condition R) (s : Pair R) → discrepancy N r s ≡ r .c ⊗ value R N (s .a) (r .x) ⊕ ⊖ (r .z ⊗ value R N (s .b) (r .x))
   unfolding discrepancy
   discrepancy-at N r s = refl
+
+  -- a condition that asks nothing; the others are active
+  abbrev pub Idle : Condition R → Type 0
+  Idle r = (r .c ≡ null) × (r .z ≡ null)
+
+  pub idle-discrepancy : (N : ℕ) (r : Condition R) (s : Pair R) → Idle r → discrepancy N r s ≡ null
+  idle-discrepancy N r s idle = rw (discrepancy-at, idle .0, idle .1) (simp ring)
 
   -- before the first row: (1, 0) and (0, 1)
   abbrev pub firstPair : ℕ → Pair R
@@ -62,13 +69,34 @@ module _ (R : Ring) where
     pub a-below : Below R (s .a) (suc k)
     pub b-below : Below R (s .b) (suc k)
 
-  -- the invariant of the pairs s and t
-  pub record Invariant (A B N : ℕ) (row : ℕ → Condition R) (k : ℕ) (s t : Pair R) : Type 0 where
+  -- the invariant of the pairs s and t after k rows, of which a are active
+  pub record Invariant (A B N : ℕ) (row : ℕ → Condition R) (k a : ℕ) (s t : Pair R) : Type 0 where
     -- s leads in a, t in b
     pub first : Holds N row k s (s .a) B (s .b) A 0
     pub second : Holds N row k t (t .b) A (t .a) B 1
     -- 4
-    pub sum : s .e + t .e ≤ A + B + k
+    pub sum : s .e + t .e ≤ A + B + a
+
+module _ (F : Field) where
+  open Field F using (ring as R, dec)
+
+  -- it is decided whether a condition is idle
+  pub dec-idle : (r : Condition R) → Dec (Idle R r)
+  dec-idle r = dec-and (dec _ _) (dec _ _)
+
+  -- how many of the first k conditions are active
+  abbrev pub activeBelow : (ℕ → Condition R) → ℕ → ℕ
+  activeBelow row k = failures (λ l. dec-idle (row l)) k
+
+  -- no condition, an idle one more, an active one more
+  pub activeBelow-zero : (row : ℕ → Condition R) → activeBelow row 0 ≡ 0
+  activeBelow-zero row = failures-zero (λ l. dec-idle (row l))
+
+  pub activeBelow-idle : (row : ℕ → Condition R) (k : ℕ) → Idle R (row k) → activeBelow row (suc k) ≡ activeBelow row k
+  activeBelow-idle row k idle = failures-holds (λ l. dec-idle (row l)) k idle
+
+  pub activeBelow-active : (row : ℕ → Condition R) (k : ℕ) → (Idle R (row k) → ⊥) → activeBelow row (suc k) ≡ suc (activeBelow row k)
+  activeBelow-active row k active = failures-fails (λ l. dec-idle (row l)) k active
 
 module _ (F : Field) (N : ℕ) (row : ℕ → Condition (F .ring)) (k : ℕ) where
   open Field F using (ring as R)
@@ -132,35 +160,35 @@ module _ (F : Field) (A B N : ℕ) where
   open Field F using (ring as R)
   open Ring R using (Carrier, null, one)
 
-  pub start-invariant : (row : ℕ → Condition R) → Invariant R A B N row 0 (firstPair R B) (secondPair R A)
+  pub start-invariant : (row : ℕ → Condition R) → Invariant R A B N row 0 0 (firstPair R B) (secondPair R A)
   start-invariant row = record {
     first = record { at-row = λ l h. absurd (omega arith); leads = leading-one F B A 0; a-below = below-constS R one; b-below = λ k l. nullS-at R k };
     second = record { at-row = λ l h. absurd (omega arith); leads = leading-one F A B 1; a-below = λ k l. nullS-at R k; b-below = below-constS R one };
     sum = omega arith;
   }
 
-  -- the five lines of the table
-  module _ {row : ℕ → Condition R} {k : ℕ} {s t : Pair R} (I : Invariant R A B N row k s t) where
-    pub keep-both : discrepancy R N (row k) s ≡ null → discrepancy R N (row k) t ≡ null → Invariant R A B N row (suc k) s t
-    keep-both z0 z1 = record { first = keeps F N row k z0 (I .first); second = keeps F N row k z1 (I .second); sum = (let h = I .sum in omega arith) }
+  -- the five lines of the table; an idle condition, which no pair fails, need not be counted
+  module _ {row : ℕ → Condition R} {k a : ℕ} {s t : Pair R} (I : Invariant R A B N row k a s t) where
+    pub keep-both : {a' : ℕ} → discrepancy R N (row k) s ≡ null → discrepancy R N (row k) t ≡ null → a ≤ a' → Invariant R A B N row (suc k) a' s t
+    keep-both z0 z1 more = record { first = keeps F N row k z0 (I .first); second = keeps F N row k z1 (I .second); sum = (let h = I .sum in omega arith) }
 
     module _ (fits : suc k < N) where
-      pub advance-first : discrepancy R N (row k) t ≡ null → Invariant R A B N row (suc k) (advanced R (row k .x) s) t
+      pub advance-first : discrepancy R N (row k) t ≡ null → Invariant R A B N row (suc k) (suc a) (advanced R (row k .x) s) t
       advance-first z1 = record { first = advances F N row k fits (I .first); second = keeps F N row k z1 (I .second); sum = (let h = I .sum in omega arith) }
 
-      pub advance-second : discrepancy R N (row k) s ≡ null → Invariant R A B N row (suc k) s (advanced R (row k .x) t)
+      pub advance-second : discrepancy R N (row k) s ≡ null → Invariant R A B N row (suc k) (suc a) s (advanced R (row k .x) t)
       advance-second z0 = record { first = keeps F N row k z0 (I .first); second = advances F N row k fits (I .second); sum = (let h = I .sum in omega arith) }
 
       -- d0 and d1 are the discrepancies
       module _ (d0 d1 : Carrier) (e0 : d0 ≡ discrepancy R N (row k) s) (e1 : d1 ≡ discrepancy R N (row k) t) where
-        pub combine-second : d0 ≢ null → s .e ≤ t .e → Invariant R A B N row (suc k) (advanced R (row k .x) s) (combined R d0 t d1 s)
+        pub combine-second : d0 ≢ null → s .e ≤ t .e → Invariant R A B N row (suc k) (suc a) (advanced R (row k .x) s) (combined R d0 t d1 s)
         combine-second n0 le = record {
           first = advances F N row k fits (I .first);
           second = combines F N row k d0 d1 e0 e1 n0 (I .second) (I .first) (omega arith) (omega arith);
           sum = (let h = I .sum in omega arith);
         }
 
-        pub combine-first : d1 ≢ null → t .e < s .e → Invariant R A B N row (suc k) (combined R d1 s d0 t) (advanced R (row k .x) t)
+        pub combine-first : d1 ≢ null → t .e < s .e → Invariant R A B N row (suc k) (suc a) (combined R d1 s d0 t) (advanced R (row k .x) t)
         combine-first n1 lt = record {
           first = combines F N row k d1 d0 e1 e0 n1 (I .first) (I .second) (omega arith) (omega arith);
           second = advances F N row k fits (I .second);

@@ -1,4 +1,4 @@
--- docs/METHOD.md, One output, the end: after A + B + 1 rows the pair with the smaller number is a solution that is not null.
+-- docs/METHOD.md, One output, the end: after A + B + 1 active conditions the pair with the smaller number is a solution that is not null.
 use mathlib.Core.Path.{_≡_, sym, _∙_, ap}
 use mathlib.Core.Logic.{_≢_}
 use Prim.Native.Nat.{ℕ, suc, _+_, _-_, _≤_, _<_}
@@ -25,7 +25,7 @@ module _ (R : Ring) where
   leads-nonnull : {f g : Series R} {A B t e : ℕ} → Leading R f A g B t e → f ≢ nullS R
   leads-nonnull {A = A} {e = e} L z = L .top (e - A) (let h = L .fits in omega arith) (ap (λ g. g (e - A)) z ∙ nullS-at R _)
 
-  module _ {A B N : ℕ} {row : ℕ → Condition R} {L : ℕ} {s t : Pair R} (I : Invariant R A B N row L s t) (rows : L ≡ A + B + 1) where
+  module _ {A B N : ℕ} {row : ℕ → Condition R} {L a : ℕ} {s t : Pair R} (I : Invariant R A B N row L a s t) (rows : a ≡ A + B + 1) where
     pub first-solves : s .e ≤ t .e → Solves A B N row L (s .a) (s .b)
     first-solves le = record {
       phi-below = λ k l. I .first .leads .f-null k (let h = I .sum in omega arith);

@@ -1,22 +1,22 @@
--- docs/METHOD.md, Only one answer: two reduced vectors are the same, or the rows number at most df + dg and the wrong rows of both.
+-- docs/METHOD.md, Only one answer: two reduced vectors are the same, or the rows that speak number at most df + dg and the wrong rows of both.
 use mathlib.Core.Path.{_≡_, sym, _∙_, ap}
 use mathlib.Core.Logic.{_⊎_, inl, inr}
 use Prim.Native.Nat.{ℕ, suc, _+_, _≤_, _<_}
 use native.Mathlib.Omega.{arith}
 use native.Mathlib.Decide.{decLe}
-use Rattle.algebra.proofs.Counting.{dec-and, failures-and}
-use Rattle.algebra.proofs.Ring.{Ring, ring, mul-comm, mul-left-comm, mul-one}
+use Rattle.algebra.proofs.Counting.{dec-and, dec-not, failures-and, failures-not}
+use Rattle.algebra.proofs.Ring.{Ring, mul-comm, mul-left-comm, mul-one}
 use Rattle.algebra.proofs.Series.{Series, constS, mulS, seriesRing}
 use Rattle.algebra.proofs.Bounds.{Below, below-mono, below-mul, Polynomial}
 use Rattle.algebra.proofs.Value.{value, value-mul-within}
-use Rattle.algebra.proofs.Field.{Field}
+use Rattle.algebra.proofs.Field.{Field, one-proportion}
 use Rattle.algebra.proofs.Degree.{regular}
 use Rattle.algebra.proofs.Roots.{Distinct, equal-if-agree}
 use Rattle.algebra.proofs.Ideal.{proportional, InIdeal}
 use Rattle.algebra.proofs.LowestTerms.{monic-nonnull}
 use Rattle.algebra.proofs.Reduced.{member-polynomial, ideal-of-reduced}
 use Rattle.method.proofs.Vectors.{ReducedVector, SameVector, same-if-multiple}
-use Rattle.method.proofs.Problem.{Evaluation, Problem, Right, dec-right, wrongCount, Fits, Answer, Ample, ample-fits}
+use Rattle.method.proofs.Problem.{Evaluation, Problem, Silent, dec-silent, speakingBelow, Clear, Right, dec-right, wrongCount, Fits, Answer, Ample, ample-fits}
 
 module _ (F : Field) {n : ℕ} {bound : ℕ → ℕ} {dg : ℕ} {f f' : ℕ → Series (F .ring)} {g g' : Series (F .ring)}
     (v : ReducedVector F n bound dg f g) (v' : ReducedVector F n bound dg f' g') where
@@ -56,7 +56,8 @@ module _ (F : Field) {n : ℕ} {bound : ℕ → ℕ} {dg : ℕ} {f f' : ℕ → 
         numerators = numerators;
       })
 
-  module _ {N : ℕ} (fits : Fits N n bound dg) (row : ℕ → Evaluation R) (L : ℕ) (distinct : Distinct F (λ l. row l .point) L) where
+  module _ {N : ℕ} (fits : Fits N n bound dg) (row : ℕ → Evaluation R) (L : ℕ) (distinct : Distinct F (λ l. row l .point) L)
+      (clear : Clear F n row L) where
     -- which rows are right for each vector
     abbrev right : (l : ℕ) → Dec (Right F N n f g (row l))
     right l = dec-right F N n f g (row l)
@@ -64,11 +65,14 @@ module _ (F : Field) {n : ℕ} {bound : ℕ → ℕ} {dg : ℕ} {f f' : ℕ → 
     abbrev right' : (l : ℕ) → Dec (Right F N n f' g' (row l))
     right' l = dec-right F N n f' g' (row l)
 
+    abbrev silent : (l : ℕ) → Dec (Silent F n (row l))
+    silent l = dec-silent F n (row l)
+
     -- the wrong rows of both vectors together
     abbrev bothWrong : ℕ
     bothWrong = wrongCount F N n f g row L + wrongCount F N n f' g' row L
 
-    -- fi g' and f'i g have degrees of at most bound i + dg, and agree at the rows that are right for both
+    -- fi g' and f'i g have degrees of at most bound i + dg, and agree at the rows that are right for both and speak
     module _ (i : ℕ) (li : i < n) where
       abbrev m : ℕ
       m = suc (bound i + dg)
@@ -82,33 +86,31 @@ module _ (F : Field) {n : ℕ} {bound : ℕ → ℕ} {dg : ℕ} {f f' : ℕ → 
           let l = fits .numerators i li in let l' = fits .denominator in
           value-mul-within R (suc (bound i)) (suc dg) m m N a b x ha hb (product-below a b ha hb) (omega arith) (omega arith) (omega arith)
 
-      agree : (r : Evaluation R) → Right F N n f g r → Right F N n f' g' r
-          → value R m (mulS R (f i) g') (r .point) ≡ value R m (mulS R (f' i) g) (r .point)
-      agree r ok ok' =
+      agree : (l : ℕ) → l < L → (Right F N n f g (row l) × Right F N n f' g' (row l)) × (Silent F n (row l) → ⊥)
+          → value R m (mulS R (f i) g') (row l .point) ≡ value R m (mulS R (f' i) g) (row l .point)
+      agree l h ok =
           product-value (f i) g' (v .numerators-below i li) (v' .denominator-below) _
-          ∙ equal _ _ _ _ (r .values i) (ok i li) (ok' i li)
+          ∙ one-proportion F (row l .weight) (row l .values i) _ _ _ _ (ok .0 .0 i li) (ok .0 .1 i li) (λ idle. ok .1 (clear l h i li (idle .0) (idle .1)))
           ∙ sym (product-value (f' i) g (v' .numerators-below i li) (v .denominator-below) _)
-        where
-          equal : (fx gx fx' gx' y : Carrier) → fx ≡ gx ⊗ y → fx' ≡ gx' ⊗ y → fx ⊗ gx' ≡ fx' ⊗ gx
-          equal fx gx fx' gx' y e e' = rw (e, e') (simp ring)
 
-      cross : bound i + dg + bothWrong < L → mulS R (f i) g' ≡ mulS R (f' i) g
-      cross many = equal-if-agree F (λ l. dec-and (right l) (right' l)) (λ l. row l .point) L m (mulS R (f i) g') (mulS R (f' i) g)
+      cross : bound i + dg + bothWrong < speakingBelow F n row L → mulS R (f i) g' ≡ mulS R (f' i) g
+      cross many = equal-if-agree F (λ l. dec-and (dec-and (right l) (right' l)) (dec-not (silent l))) (λ l. row l .point) L m (mulS R (f i) g') (mulS R (f' i) g)
           (product-below (f i) g' (v .numerators-below i li) (v' .denominator-below))
-          (product-below (f' i) g (v' .numerators-below i li) (v .denominator-below)) distinct
-          (λ l h ok. agree (row l) (ok .0) (ok .1)) (let w = failures-and right right' L in omega arith)
+          (product-below (f' i) g (v' .numerators-below i li) (v .denominator-below)) distinct agree
+          (let w = failures-and right right' L in let w' = failures-and (λ l. dec-and (right l) (right' l)) (λ l. dec-not (silent l)) L in
+          let all = failures-not silent L in omega arith)
 
-    -- more rows than these degrees and wrong rows, for every output: the vectors are the same
-    pub same-if-many : ((i : ℕ) → i < n → bound i + dg + bothWrong < L) → SameVector F n f g f' g'
+    -- more rows that speak than these degrees and wrong rows, for every output: the vectors are the same
+    pub same-if-many : ((i : ℕ) → i < n → bound i + dg + bothWrong < speakingBelow F n row L) → SameVector F n f g f' g'
     same-if-many many = same-if-proportional (λ i l. cross i l (many i l))
 
-    -- two reduced vectors are the same, or the rows number at most df + dg and the wrong rows of both, where df is a bound of all numerators
+    -- two reduced vectors are the same, or the rows that speak number at most df + dg and the wrong rows of both, where df is a bound of all numerators
     pub same-or-few : (df : ℕ) → ((i : ℕ) → i < n → bound i ≤ df)
-        → SameVector F n f g f' g' ⊎ (L ≤ df + dg + wrongCount F N n f g row L + wrongCount F N n f' g' row L)
-    same-or-few df largest = by (decLe L (df + dg + wrongCount F N n f g row L + wrongCount F N n f' g' row L))
+        → SameVector F n f g f' g' ⊎ (speakingBelow F n row L ≤ df + dg + wrongCount F N n f g row L + wrongCount F N n f' g' row L)
+    same-or-few df largest = by (decLe (speakingBelow F n row L) (df + dg + wrongCount F N n f g row L + wrongCount F N n f' g' row L))
       where
-        by : Dec (L ≤ df + dg + wrongCount F N n f g row L + wrongCount F N n f' g' row L)
-            → SameVector F n f g f' g' ⊎ (L ≤ df + dg + wrongCount F N n f g row L + wrongCount F N n f' g' row L)
+        by : Dec (speakingBelow F n row L ≤ df + dg + wrongCount F N n f g row L + wrongCount F N n f' g' row L)
+            → SameVector F n f g f' g' ⊎ (speakingBelow F n row L ≤ df + dg + wrongCount F N n f g row L + wrongCount F N n f' g' row L)
         by (yes few) = inr few
         by (no many) = inl (same-if-many (λ i l. let h = largest i l in omega arith))
 
@@ -116,5 +118,5 @@ module _ (F : Field) {n : ℕ} {bound : ℕ → ℕ} {dg : ℕ} {f f' : ℕ → 
 pub unique : (F : Field) (N : ℕ) (T : Problem (F .ring)) → Ample F T → T .count < N → {f f' : ℕ → Series (F .ring)} {g g' : Series (F .ring)}
     → Answer F N T f g → Answer F N T f' g' → (g ≡ g') × ((i : ℕ) → i < T .outputs → f i ≡ f' i)
 unique F N T H capacity a a' =
-    same-if-many F (a .vector) (a' .vector) (ample-fits F N T H capacity) (T .row) (T .count) (H .distinct)
+    same-if-many F (a .vector) (a' .vector) (ample-fits F N T H capacity) (T .row) (T .count) (H .distinct) (H .clear)
     (λ i l. let e = H .enough i l in let w = a .few-wrong in let w' = a' .few-wrong in omega arith)

@@ -2,7 +2,7 @@
 use mathlib.Core.Path.{_≡_, sym, ap, ap₂, _∙_}
 use mathlib.Core.Logic.{_⊎_, inl, inr}
 use mathlib.Core.List.{List}
-use Prim.Native.Nat.{ℕ, _<_}
+use Prim.Native.Nat.{ℕ, _≤_, _<_}
 use native.Mathlib.Omega.{arith}
 use Rattle.format.specs.Bounds.{answerLengthOf}
 use Rattle.format.proofs.Numbers.{number-injective, number-positive}
@@ -38,17 +38,17 @@ module _ (s a : List ℕ) {r : JudgementReport} where
       by (inr (inr (inr n))) (inr (inr (inl y))) = absurd (n .wrong (y .right))
       by (inr (inr (inr n))) (inr (inr (inr n'))) = n .report ∙ sym (n' .report)
 
-  -- its refusals are 1, 11 and 3 to 6
-  pub refusals-given : Judged s a r → (r .refusal ≡ 2 → ⊥) × (6 < r .refusal → r .refusal ≡ 11)
+  -- its refusals are 1, 11, 3 to 6 and 12
+  pub refusals-given : Judged s a r → (r .refusal ≡ 2 → ⊥) × (6 < r .refusal → (11 ≤ r .refusal) × (r .refusal ≤ 12))
   refusals-given J = by (J .cases) (form-early s)
     where
-      low : {n : ℕ} → r .refusal ≡ n → n < 7 → (n ≡ 2 → ⊥) → (r .refusal ≡ 2 → ⊥) × (6 < r .refusal → r .refusal ≡ 11)
+      low : {n : ℕ} → r .refusal ≡ n → n < 7 → (n ≡ 2 → ⊥) → (r .refusal ≡ 2 → ⊥) × (6 < r .refusal → (11 ≤ r .refusal) × (r .refusal ≤ 12))
       low e most other = (λ two. other (sym e ∙ two), λ high. absurd (omega arith))
 
       by : JobRefused s r ⊎ (LengthRefused s a r ⊎ (Affirmed s a r ⊎ Denied s a r)) → EarlyBelow 7 (outcomeOf s (answerLengthOf (boundsOf s)))
-          → (r .refusal ≡ 2 → ⊥) × (6 < r .refusal → r .refusal ≡ 11)
+          → (r .refusal ≡ 2 → ⊥) × (6 < r .refusal → (11 ≤ r .refusal) × (r .refusal ≤ 12))
       by (inl j) (inl accepted) = absurd (j .malformed accepted)
-      by (inl j) (inr number) = let e = ap (λ t. t .refusal) (j .report) in (λ two. number .1 (sym e ∙ two), λ high. e ∙ number .2 (omega arith))
+      by (inl j) (inr number) = let e = ap (λ t. t .refusal) (j .report) in (λ two. number .1 (sym e ∙ two), λ high. rw e (number .2 (omega arith)))
       by (inr (inl l)) o = low (ap (λ t. t .refusal) (l .report)) (omega arith) (λ two. omega arith)
       by (inr (inr (inl y))) o = low (ap (λ t. t .refusal) (y .report)) (omega arith) (λ two. omega arith)
       by (inr (inr (inr n))) o = low (ap (λ t. t .refusal) (n .report)) (omega arith) (λ two. omega arith)

@@ -14,7 +14,7 @@ use Rattle.format.specs.Numbers.{numberFrom, wordFrom}
 use Rattle.poly.specs.Coefficients.{at}
 use Rattle.header.specs.Header.{boundsOf}
 use Rattle.header.proofs.Fields.{narrow, storable}
-use Rattle.rows.specs.Rows.{jobPoints, jobValues}
+use Rattle.marked_rows.specs.Table.{jobPoints, jobWeights, jobValues}
 use Rattle.word.specs.Word.{bitAt, wordOf, wrongCountOf}
 use Rattle.word.proofs.Words.{word-same, bit-exactly}
 use Rattle.word.proofs.Marks.{count-of-word}
@@ -73,7 +73,7 @@ module _ (s a : List ℕ) (size : length a ≡ answerLengthOf (boundsOf s)) wher
   }
 
   -- the word of the rows that are wrong for f and g, and their number
-  word-of-rows : (f : ℕ → List ℕ) (g : List ℕ) → wordOf (b .rows) (wrongRowAt b (jobPoints s) (jobValues s) f g) ≡ wordFor s f g
+  word-of-rows : (f : ℕ → List ℕ) (g : List ℕ) → wordOf (b .rows) (wrongRowAt b (jobPoints s) (jobWeights s) (jobValues s) f g) ≡ wordFor s f g
   word-of-rows f g = word-same (b .rows) _ _ (same-wrong s f g)
 
   count-of-rows : (f : ℕ → List ℕ) (g : List ℕ) → wrongCountOf (wordFor s f g) ≡ wrongCount s f g
@@ -85,7 +85,7 @@ module _ (s a : List ℕ) (size : length a ≡ answerLengthOf (boundsOf s)) wher
       first-four a (omega arith)
       ∙ ap₂ _++_ (sym (word-bytes a bytes)) (sym (coefficients-written (drop 4 a) (λ k. rw (getD-drop 4 a k 0) (bytes (4 + k))) b (storable s) size-behind))
 
-  pub passes-right : Bytes a → Passes b (jobPoints s) (jobValues s) a → OfAnswer s a
+  pub passes-right : Bytes a → Passes b (jobPoints s) (jobWeights s) (jobValues s) a → OfAnswer s a
   passes-right bytes P =
       let word : wordFrom a ≡ wordFor s f g = P .rows .named ∙ word-of-rows f g in (
         f,
@@ -130,7 +130,7 @@ module _ (s a : List ℕ) (size : length a ≡ answerLengthOf (boundsOf s)) wher
       numerators = λ i li k. same-numerator i li k (lt-or-ge k (numeratorBoundOf b i + 1));
     }
 
-    answer-passes : Passes b (jobPoints s) (jobValues s) a
+    answer-passes : Passes b (jobPoints s) (jobWeights s) (jobValues s) a
     answer-passes =
         let own = answer-same s listed-same A in
         let word : wordFrom a ≡ wordFor s f g = word-written s f' g' [] a alone (let n = narrow s .rows-most in omega arith) ∙ word-same (b .rows) _ _ (λ r l. wrong-at-same s listed-same r) in
@@ -143,11 +143,11 @@ module _ (s a : List ℕ) (size : length a ≡ answerLengthOf (boundsOf s)) wher
           };
         }
 
-  pub right-passes : OfAnswer s a → Passes b (jobPoints s) (jobValues s) a
+  pub right-passes : OfAnswer s a → Passes b (jobPoints s) (jobWeights s) (jobValues s) a
   right-passes right = answer-passes (right .2) (right .3)
 
   -- What a yes says of the offered bytes, so that each lack is a no: a coefficient of p or more, a vector that is not reduced, a row that is
-  -- marked and right, or wrong and not marked, a mark at a row that does not exist, a wrong row too many.
+  -- named and not wrong, or wrong and not named, a bit for a row that does not exist, a wrong row too many.
   pub yes-says : OfAnswer s a
       → (anyTooLarge b (drop 4 a) ≡ false) × Reduced (primeOf b) (b .outputs) f g
       × ((r : ℕ) → r < 32 → (bitAt (wordFrom a) r ≡ 1) ↔ ((r < b .rows) × (wrongAt s f g r ≡ true))) × (wrongCount s f g ≤ b .errors)

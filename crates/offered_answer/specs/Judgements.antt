@@ -29,7 +29,8 @@ judgementReportOf Yes = yesReport
 judgementReportOf No = noReport
 judgementReportOf (Refused reason row) = unjudgedReport (numberOf reason) row
 
--- "1 to 6 as for the job", with 11 in the place of 2 since item 5: what its tests say with an area just as long as its answer, which 7 does not refuse
+-- "1 to 6 as for the job", with 11 in the place of 2 since item 5 and 12 between 5 and 6 since item 6: what its tests say with an area just as long as its
+-- answer, which 7 does not refuse
 abbrev pub formOf : List ℕ → Report
 formOf s = reportOf (outcomeOf s (answerLengthOf (boundsOf s)))
 

@@ -1,4 +1,4 @@
--- What the tests find out about an offered answer, on the rows as the code holds them. a holds the offered bytes.
+-- What the tests find out about an offered answer, on the rows by their conditions, as the code holds them. a holds the offered bytes.
 use mathlib.Core.Path.{_≡_}
 use mathlib.Core.Bool.{false}
 use mathlib.Core.List.{List}
@@ -20,12 +20,12 @@ abbrev pub offeredNumerator : Bounds → List ℕ → ℕ → List ℕ
 offeredNumerator b a = numeratorOf b (drop 4 a)
 
 -- exactly the rows that a word names are wrong for f and g, and they are E at most
-pub record RowsAgree (b : Bounds) (points values : List ℕ) (word : ℕ) (f : ℕ → List ℕ) (g : List ℕ) : Type 0 where
-  pub named : word ≡ wordOf (b .rows) (wrongRowAt b points values f g)
+pub record RowsAgree (b : Bounds) (points weights values : List ℕ) (word : ℕ) (f : ℕ → List ℕ) (g : List ℕ) : Type 0 where
+  pub named : word ≡ wordOf (b .rows) (wrongRowAt b points weights values f g)
   pub few : wrongCountOf word ≤ b .errors
 
 -- all tests: "degrees, reducedness and the rows". The bytes leave no room for coefficients above the degree bounds.
-pub record Passes (b : Bounds) (points values a : List ℕ) : Type 0 where
+pub record Passes (b : Bounds) (points weights values a : List ℕ) : Type 0 where
   pub below : anyTooLarge b (drop 4 a) ≡ false
   pub reduced : Reduced (primeOf b) (b .outputs) (offeredNumerator b a) (offeredDenominator b a)
-  pub rows : RowsAgree b points values (wordFrom a) (offeredNumerator b a) (offeredDenominator b a)
+  pub rows : RowsAgree b points weights values (wordFrom a) (offeredNumerator b a) (offeredDenominator b a)

@@ -71,13 +71,20 @@ fn offered_word(offered: &[u8]) -> u32
 }
 
 // Whether exactly the rows that the word names are wrong for the vector, and no more than E.
-fn rows_agree(b: Bounds, points: [u32; 32], values: [u32; 128], v: Vector, word: u32) -> bool
+fn rows_agree(
+    b: Bounds,
+    points: [u32; 32],
+    weights: [u16; 32],
+    values: [u32; 128],
+    v: Vector,
+    word: u32,
+) -> bool
     requires { ⌜ (b .rows ≤ 32) × Storable b × Within b (coefficientsAt (v .f)) (v .g .c) ⌝ }
-    ensures { λ r. ⌜ (r ≡ true) ↔ RowsAgree b points values word (coefficientsAt (v .f)) (v .g .c) ⌝ }
+    ensures { λ r. ⌜ (r ≡ true) ↔ RowsAgree b points weights values word (coefficientsAt (v .f)) (v .g .c) ⌝ }
 {
     let g = v.g;
     let f = v.f;
-    let wrong = judge::wrong_rows(b, points, values, g, f);
+    let wrong = judge::wrong_rows(b, points, weights, values, g, f);
     if wrong != word {
         return false;
     }
@@ -85,9 +92,15 @@ fn rows_agree(b: Bounds, points: [u32; 32], values: [u32; 128], v: Vector, word:
 }
 
 // The tests, on the offered bytes and the rows; the dearest comes last.
-fn passes(b: Bounds, points: [u32; 32], values: [u32; 128], offered: &[u8]) -> bool
+fn passes(
+    b: Bounds,
+    points: [u32; 32],
+    weights: [u16; 32],
+    values: [u32; 128],
+    offered: &[u8],
+) -> bool
     requires { ⌜ (b .rows ≤ 32) × Storable b × (length (now offered) ≡ answerLengthOf b) ⌝ }
-    ensures { λ r. ⌜ (r ≡ true) ↔ Passes b points values (now (offered .entry)) ⌝ }
+    ensures { λ r. ⌜ (r ≡ true) ↔ Passes b points weights values (now (offered .entry)) ⌝ }
 {
     let end = offered.len();
     let v = read_vector(&offered[4..end], b);
@@ -95,7 +108,7 @@ fn passes(b: Bounds, points: [u32; 32], values: [u32; 128], offered: &[u8]) -> b
         return false;
     }
     let word = offered_word(offered);
-    if !rows_agree(b, points, values, v, word) {
+    if !rows_agree(b, points, weights, values, v, word) {
         return false;
     }
     let prime = b.prime;
@@ -125,8 +138,9 @@ pub fn judge_answer(job: &[u8], offered: &[u8]) -> Judgement
         };
     }
     let points = reading.points;
+    let weights = reading.weights;
     let values = reading.values;
-    if passes(b, points, values, offered) {
+    if passes(b, points, weights, values, offered) {
         return Judgement::Yes;
     }
     Judgement::No

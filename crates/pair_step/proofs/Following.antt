@@ -3,17 +3,13 @@ use mathlib.Core.Path.{_≡_, refl, sym, ap, ap₂, _∙_}
 use mathlib.Core.Bool.{Bool, true, false, not, cond}
 use mathlib.Core.List.{List}
 use Prim.Native.Nat.{ℕ, _+_, _-_, _*_, _%_, _≤_, _<_}
-use native.Mathlib.Decide.{decLt}
 use native.Mathlib.Omega.{arith}
 use lib.Dec.{eqb}
-use lib.ListN.{replicate}
 use Rattle.montgomery.specs.Factors.{formOf}
-use Rattle.poly.specs.Coefficients.{at, Stored}
+use Rattle.poly.specs.Coefficients.{at}
 use Rattle.poly.specs.Operations.{timesLinearOf, combinationAt, combinationOf}
 use Rattle.poly.specs.Vectors.{onePoly, zeroPoly}
-use Rattle.lists.proofs.Tabulated.{at-past}
 use Rattle.poly.proofs.Lists.{bounded-zeros}
-use Rattle.lanes.proofs.Changes.{splat}
 use Rattle.pairs.specs.declared.Pair.{Pair}
 use Rattle.pairs.specs.Pairs.{Pairs, PairShort, discrepancyOf, advancedOf, combinedOf, stepBy, startOf}
 use Rattle.pairs.proofs.PairLaws.{pair-is, bounded-one, Reached, reached-step}
@@ -39,30 +35,30 @@ held-short e m l h = record { left = λ k g. h .left .bounded .within k (omega a
 
 -- the pair times (u - x)
 pub follow-advanced : {r : Row} {ps vs xs a b d a′ b′ d′ : List ℕ} {s s′ : Side} → Advanced r ps vs xs s a b d s′ a′ b′ d′ → s .n ≤ 31 → PairHeld (primeAt r) (s .n) a b
-    → (e l y z : ℕ) → r .index ≤ l → l < r .rows → at xs l ≡ formOf (primeAt r) y
-    → at d l ≡ discrepancyOf (primeAt r) y z (pairOf a b e) → at d′ l ≡ discrepancyOf (primeAt r) y z (pairOf a′ b′ (e + 1))
-follow-advanced {r} {a = a} {b = b} h short held e l y z i g form ed =
+    → (e l y c z : ℕ) → r .index ≤ l → l < r .rows → at xs l ≡ formOf (primeAt r) y
+    → at d l ≡ discrepancyOf (primeAt r) c y z (pairOf a b e) → at d′ l ≡ discrepancyOf (primeAt r) c y z (pairOf a′ b′ (e + 1))
+follow-advanced {r} {a = a} {b = b} h short held e l y c z i g form ed =
     h .each l y i g form
     ∙ ap (λ v. (y + (primeAt r - r .point)) * v % primeAt r) ed
     ∙ sym
-    (ap (discrepancyOf (primeAt r) y z) (advanced-is (primeAt r) (r .point) e a b (h .left) (h .right))
-    ∙ discrepancy-advanced (primeAt r) y z (r .point) (pairOf a b e) (held-short e 31 short held))
+    (ap (discrepancyOf (primeAt r) c y z) (advanced-is (primeAt r) (r .point) e a b (h .left) (h .right))
+    ∙ discrepancy-advanced (primeAt r) c y z (r .point) (pairOf a b e) (held-short e 31 short held))
 
 -- the pair less a multiple of the other
 pub follow-cleared : {r : Row} {n : ℕ} {ps a b d s t e s′ t′ e′ : List ℕ} {u u′ : Side} → Cleared r ps n a b d u s t e u′ s′ t′ e′ → n ≤ 31
     → PairHeld (primeAt r) n a b → PairHeld (primeAt r) n s t
-    → (f g l y z : ℕ) → r .index ≤ l → l < r .rows
-    → at d l ≡ discrepancyOf (primeAt r) y z (pairOf a b f) → at e l ≡ discrepancyOf (primeAt r) y z (pairOf s t g)
-    → at e′ l ≡ discrepancyOf (primeAt r) y z (pairOf s′ t′ g)
+    → (f g l y c z : ℕ) → r .index ≤ l → l < r .rows
+    → at d l ≡ discrepancyOf (primeAt r) c y z (pairOf a b f) → at e l ≡ discrepancyOf (primeAt r) c y z (pairOf s t g)
+    → at e′ l ≡ discrepancyOf (primeAt r) c y z (pairOf s′ t′ g)
 unfolding combinationAt
-follow-cleared {r} {a = a} {b = b} {d = d} {s = s} {t = t} {e = e} h short held other f g l y z i k ed ee =
+follow-cleared {r} {a = a} {b = b} {d = d} {s = s} {t = t} {e = e} h short held other f g l y c z i k ed ee =
     let m = at d (r .index) in
-    let c = at e (r .index) in
+    let n = at e (r .index) in
     h .each l i k
-    ∙ ap₂ (λ v w. (m * v + (primeAt r - c) * w) % primeAt r) ee ed
+    ∙ ap₂ (λ v w. (m * v + (primeAt r - n) * w) % primeAt r) ee ed
     ∙ sym
-    (ap (discrepancyOf (primeAt r) y z) (combined-is (primeAt r) m c g f s t a b (h .left) (h .right))
-    ∙ discrepancy-combined (primeAt r) y z m c (pairOf s t g) (pairOf a b f) (held-short g 32 (omega arith) other) (held-short f 32 (omega arith) held))
+    (ap (discrepancyOf (primeAt r) c y z) (combined-is (primeAt r) m n g f s t a b (h .left) (h .right))
+    ∙ discrepancy-combined (primeAt r) c y z m n (pairOf s t g) (pairOf a b f) (held-short g 32 (omega arith) other) (held-short f 32 (omega arith) held))
 
 -- the arrays before the first row
 pub start-is : (A B : ℕ) {a0 b0 a1 b1 : List ℕ} → a0 ≡ onePoly .c → b0 ≡ zeroPoly .c → a1 ≡ zeroPoly .c → b1 ≡ onePoly .c
@@ -79,19 +75,16 @@ start-held {p} {a} {b} l ea eb = (record { left = one; right = none }, record { 
     none : Holds p 1 b
     none = rw eb (record { bounded = bounded-zeros p 1 32 (omega arith); size = refl })
 
-pub ones-narrow : {p : ℕ} → 1 < p → Stored p (replicate 32 1)
-ones-narrow {p} l = record { size = refl; below = λ k. go k (decLt k 32) }
-  where
-    go : (k : ℕ) → Dec (k < 32) → at (replicate 32 1) k < p
-    go k (yes h) = rw (splat 1 k h) l
-    go k (no h) = let z = at-past (replicate 32 1) k (omega arith) in omega arith
-
-pub start-kept : {p : ℕ} (points z d : List ℕ) (rows A B : ℕ) {s : Pairs} → rows ≤ 31 → 1 < p → s ≡ startOf A B
-    → ((k : ℕ) → k < rows → at d k ≡ (0 + (p - at z k)) % p)
-    → Kept p points z 0 rows (s .first) (replicate 32 1) × Kept p points z 0 rows (s .second) d
-start-kept {p} points z d rows A B {s} few l es ed = (
-  λ k i h. splat 1 k (omega arith) ∙ sym (ap (λ (t : Pairs). discrepancyOf p (at points k) (at z k) (t .first)) es ∙ discrepancy-first p _ _ A B l),
-  λ k i h. ed k h ∙ ap (λ n. n % p) (omega arith) ∙ sym (ap (λ (t : Pairs). discrepancyOf p (at points k) (at z k) (t .second)) es ∙ discrepancy-second p _ _ A B l),
+-- the discrepancies of (1, 0) are the weights, and those of (0, 1) are - z
+pub start-kept : {p : ℕ} (points weights z d e : List ℕ) (rows A B : ℕ) {s : Pairs} → 1 < p → ((k : ℕ) → at weights k < 2) → s ≡ startOf A B
+    → ((k : ℕ) → k < rows → at d k ≡ at weights k) → ((k : ℕ) → k < rows → at e k ≡ (0 + (p - at z k)) % p)
+    → Kept p points weights z 0 rows (s .first) d × Kept p points weights z 0 rows (s .second) e
+start-kept {p} points weights z d e rows A B {s} l low es ed ee = (
+  λ k i h. ed k h ∙ sym
+      (ap (λ (t : Pairs). discrepancyOf p (at weights k) (at points k) (at z k) (t .first)) es
+      ∙ discrepancy-first p _ _ _ A B l (omega (arith, low k))),
+  λ k i h. ee k h ∙ ap (λ n. n % p) (omega arith) ∙ sym
+      (ap (λ (t : Pairs). discrepancyOf p (at weights k) (at points k) (at z k) (t .second)) es ∙ discrepancy-second p _ _ _ A B l),
 )
 
 -- both lines together are a step
@@ -114,23 +107,23 @@ module _ {r : Row} {ps vs xs : List ℕ} {s s′ : Sides} {a0 b0 d0 a1 b1 d1 a0�
       ap₂ pairsOf (h .first .pair) (h .second .pair)
       ∙ lines-step (eqb (at d0 (r .index)) 0) (eqb (at d1 (r .index)) 0) (firstLeads s) _ _ _ _ _ _
 
-  pub kept-step : (points z : List ℕ) → ((l : ℕ) → l < r .rows → at xs l ≡ formOf (primeAt r) (at points l))
-      → Kept (primeAt r) points z (r .index) (r .rows) (pairOf a0 b0 (s .first .e)) d0
-      → Kept (primeAt r) points z (r .index) (r .rows) (pairOf a1 b1 (s .second .e)) d1
-      → Kept (primeAt r) points z (r .index + 1) (r .rows) (pairOf a0′ b0′ (s′ .first .e)) d0′
-      × Kept (primeAt r) points z (r .index + 1) (r .rows) (pairOf a1′ b1′ (s′ .second .e)) d1′
-  kept-step points z form first second = (
-    λ l i g. h .first .followed l _ _ (omega arith) g (form l g) (first l (omega arith) g) (second l (omega arith) g),
-    λ l i g. h .second .followed l _ _ (omega arith) g (form l g) (second l (omega arith) g) (first l (omega arith) g),
+  pub kept-step : (points weights z : List ℕ) → ((l : ℕ) → l < r .rows → at xs l ≡ formOf (primeAt r) (at points l))
+      → Kept (primeAt r) points weights z (r .index) (r .rows) (pairOf a0 b0 (s .first .e)) d0
+      → Kept (primeAt r) points weights z (r .index) (r .rows) (pairOf a1 b1 (s .second .e)) d1
+      → Kept (primeAt r) points weights z (r .index + 1) (r .rows) (pairOf a0′ b0′ (s′ .first .e)) d0′
+      × Kept (primeAt r) points weights z (r .index + 1) (r .rows) (pairOf a1′ b1′ (s′ .second .e)) d1′
+  kept-step points weights z form first second = (
+    λ l i g. h .first .followed l _ _ _ (omega arith) g (form l g) (first l (omega arith) g) (second l (omega arith) g),
+    λ l i g. h .second .followed l _ _ _ (omega arith) g (form l g) (second l (omega arith) g) (first l (omega arith) g),
   )
 
   -- what the loop over the rows keeps
-  pub reached-more : {points z : List ℕ} {A B : ℕ}
-      → Reached (primeAt r) points z A B (r .index) (r .index + 1) (pairsOf (pairOf a0 b0 (s .first .e)) (pairOf a1 b1 (s .second .e)))
+  pub reached-more : {points weights z : List ℕ} {A B : ℕ}
+      → Reached (primeAt r) points weights z A B (r .index) (r .index + 1) (pairsOf (pairOf a0 b0 (s .first .e)) (pairOf a1 b1 (s .second .e)))
       → r .point ≡ at points (r .index) → r .index < r .rows
-      → Kept (primeAt r) points z (r .index) (r .rows) (pairOf a0 b0 (s .first .e)) d0
-      → Kept (primeAt r) points z (r .index) (r .rows) (pairOf a1 b1 (s .second .e)) d1
-      → Reached (primeAt r) points z A B (r .index + 1) (r .index + 1 + 1) (pairsOf (pairOf a0′ b0′ (s′ .first .e)) (pairOf a1′ b1′ (s′ .second .e)))
+      → Kept (primeAt r) points weights z (r .index) (r .rows) (pairOf a0 b0 (s .first .e)) d0
+      → Kept (primeAt r) points weights z (r .index) (r .rows) (pairOf a1 b1 (s .second .e)) d1
+      → Reached (primeAt r) points weights z A B (r .index + 1) (r .index + 1 + 1) (pairsOf (pairOf a0′ b0′ (s′ .first .e)) (pairOf a1′ b1′ (s′ .second .e)))
   reached-more reached point there first second =
       reached-step reached _ _
       (stepped-pairs ∙ rw (point, first (r .index) (omega arith) there, second (r .index) (omega arith) there))

@@ -93,7 +93,7 @@ module _ {r : Row} (fits : Fits r) {ps vs xs : List ℕ} {u w : Side} {a b d s t
     exact = line-stays _ _ _ _ _ _ z;
     held = record { pair = h .held .pair; discrepancies = h .held .discrepancies };
     low = omega (arith, h .low);
-    followed = λ l y z i g form own beside. own;
+    followed = λ l y c z i g form own beside. own;
   })
 
   -- it has one, and the other has none, or it leads
@@ -107,7 +107,7 @@ module _ {r : Row} (fits : Fits r) {ps vs xs : List ℕ} {u w : Side} {a b d s t
         exact = i .exact ∙ line-multiplied _ _ _ _ _ _ n c;
         held = i .held;
         low = omega (arith, h .low);
-        followed = λ l y z j g form own beside. follow-advanced i short (h .held .pair) _ l y z j g form own;
+        followed = λ l y c z j g form own beside. follow-advanced i short (h .held .pair) _ l y c z j g form own;
       })
 
   -- both have one, and the other leads
@@ -123,8 +123,8 @@ module _ {r : Row} (fits : Fits r) {ps vs xs : List ℕ} {u w : Side} {a b d s t
         exact = i .exact ∙ line-combined _ _ _ _ _ _ n c f;
         held = i .held;
         low = omega (arith, most);
-        followed = λ l y z j g form own beside.
-            follow-cleared i short (held-mono (k .held .pair) (long .0)) (held-mono (h .held .pair) (long .1)) _ _ l y z j g beside own;
+        followed = λ l y c z j g form own beside.
+            follow-cleared i short (held-mono (k .held .pair) (long .0)) (held-mono (h .held .pair) (long .1)) _ _ l y c z j g beside own;
       })
 
 -- both, where (a, b) leads

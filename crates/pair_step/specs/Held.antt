@@ -122,8 +122,8 @@ Leads m c first second First = (m ≡ 0 → ⊥) × ((c ≡ 0 → ⊥) → leb f
 Leads m c first second Second = (c ≡ 0 → ⊥) × ((m ≡ 0 → ⊥) → leb first second ≡ false)
 
 -- d holds the discrepancies of the pair s at rows `from` to rows - 1
-abbrev pub Kept : (p : ℕ) (points z : List ℕ) («from» rows : ℕ) (s : Pair) (d : List ℕ) → Type 0
-Kept p points z «from» rows s d = (l : ℕ) → «from» ≤ l → l < rows → at d l ≡ discrepancyOf p (at points l) (at z l) s
+abbrev pub Kept : (p : ℕ) (points weights z : List ℕ) («from» rows : ℕ) (s : Pair) (d : List ℕ) → Type 0
+Kept p points weights z «from» rows s d = (l : ℕ) → «from» ≤ l → l < rows → at d l ≡ discrepancyOf p (at weights l) (at points l) (at z l) s
 
 -- The table of docs/METHOD.md for one of the pairs, by its own discrepancy m at the row and that of the other pair, c, and by whether it leads: it stays,
 -- is multiplied by (u - x), or is combined with the other
@@ -141,9 +141,9 @@ pub record Lined (r : Row) (ps vs xs : List ℕ) (leads : Bool) (u : Side) (a b 
   pub exact : d′ ≡ lineOf (at d (r .index)) (at e (r .index)) leads d (multipliedBy r ps vs xs d) (clearedBy r ps e d)
   pub held : Held r u′ a′ b′ d′
   pub low : u′ .n ≤ r .index + 1 + 1
-  pub followed : (l y z : ℕ) → r .index ≤ l → l < r .rows → at xs l ≡ formOf (primeAt r) y
-      → at d l ≡ discrepancyOf (primeAt r) y z (pairOf a b (u .e)) → at e l ≡ discrepancyOf (primeAt r) y z (pairOf s t (w .e))
-      → at d′ l ≡ discrepancyOf (primeAt r) y z (pairOf a′ b′ (u′ .e))
+  pub followed : (l y c z : ℕ) → r .index ≤ l → l < r .rows → at xs l ≡ formOf (primeAt r) y
+      → at d l ≡ discrepancyOf (primeAt r) c y z (pairOf a b (u .e)) → at e l ≡ discrepancyOf (primeAt r) c y z (pairOf s t (w .e))
+      → at d′ l ≡ discrepancyOf (primeAt r) c y z (pairOf a′ b′ (u′ .e))
 
 -- whether the first pair leads where both have a discrepancy
 abbrev pub firstLeads : Sides → Bool

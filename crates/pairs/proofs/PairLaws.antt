@@ -105,16 +105,16 @@ bounded-one p l = record { residues = low; within = past }
     past (suc k) h = at-zeros 31 k
 
 -- what the loop over the rows keeps
-pub record Reached (p : ℕ) (points z : List ℕ) (A B k n : ℕ) (s : Pairs) : Type 0 where
-  pub same : s ≡ pairsAfter p points z A B k
+pub record Reached (p : ℕ) (points weights z : List ℕ) (A B k n : ℕ) (s : Pairs) : Type 0 where
+  pub same : s ≡ pairsAfter p points weights z A B k
   pub low : n ≤ k + 1
   pub bounded : PairsBounded p n s
   pub first-low : s .first .e ≤ B + k
   pub second-low : s .second .e ≤ A + k
 
-pub reached-start : (p : ℕ) (points z : List ℕ) (A B : ℕ) (s : Pairs) → 1 < p → s ≡ startOf A B → Reached p points z A B 0 1 s
+pub reached-start : (p : ℕ) (points weights z : List ℕ) (A B : ℕ) (s : Pairs) → 1 < p → s ≡ startOf A B → Reached p points weights z A B 0 1 s
 unfolding startOf pairsAfter
-reached-start p points z A B s l e =
+reached-start p points weights z A B s l e =
     let null : Bounded p 1 (zeroPoly .c) = bounded-zeros p 1 32 (omega arith) in
     let start : PairsBounded p 1 (startOf A B) = record {
       one = record { left = bounded-one p l; right = null };
@@ -128,11 +128,12 @@ reached-start p points z A B s l e =
       second-low = omega (arith, ap second-number e);
     }
 
-pub reached-step : {p : ℕ} {points z : List ℕ} {A B k n : ℕ} {s : Pairs} → Reached p points z A B k n s → (r : Pairs) (m : ℕ)
-    → r ≡ pairsStep p (getD points k 0) (getD z k 0) s → m ≤ k + 1 + 1 → PairsBounded p m r → Reached p points z A B (k + 1) m r
+pub reached-step : {p : ℕ} {points weights z : List ℕ} {A B k n : ℕ} {s : Pairs} → Reached p points weights z A B k n s → (r : Pairs) (m : ℕ)
+    → r ≡ pairsStep p (getD weights k 0) (getD points k 0) (getD z k 0) s → m ≤ k + 1 + 1 → PairsBounded p m r
+    → Reached p points weights z A B (k + 1) m r
 unfolding pairsAfter
-reached-step {p} {points} {z} {A} {B} {k} {n} {s} h r m e l b = record {
-  same = e ∙ ap (pairsStep p (getD points k 0) (getD z k 0)) (h .same) ∙ ap (pairsAfter p points z A B) (sym (add-one k));
+reached-step {p} {points} {weights} {z} {A} {B} {k} {n} {s} h r m e l b = record {
+  same = e ∙ ap (pairsStep p (getD weights k 0) (getD points k 0) (getD z k 0)) (h .same) ∙ ap (pairsAfter p points weights z A B) (sym (add-one k));
   low = l;
   bounded = b;
   first-low = omega (arith, ap first-number e, first-rises p x d0 d1 s, h .first-low);
@@ -143,7 +144,7 @@ reached-step {p} {points} {z} {A} {B} {k} {n} {s} h r m e l b = record {
     x = getD points k 0
 
     d0 : ℕ
-    d0 = discrepancyOf p x (getD z k 0) (s .first)
+    d0 = discrepancyOf p (getD weights k 0) x (getD z k 0) (s .first)
 
     d1 : ℕ
-    d1 = discrepancyOf p x (getD z k 0) (s .second)
+    d1 = discrepancyOf p (getD weights k 0) x (getD z k 0) (s .second)

@@ -1,17 +1,25 @@
--- Paper 01, "The object": "A row at a root of g is always wrong". So it is for every reduced vector.
+-- Paper 01, "The object": "A row at a root of g is always wrong". So it is for every reduced vector, and with paper 02, item 6, "for unmarked rows only".
 use mathlib.Core.Path.{_≡_, refl, _∙_, ap, ap₂}
-use mathlib.Core.Bool.{Bool, true, false}
+use mathlib.Core.Bool.{Bool, true, false, not}
 use mathlib.Core.List.{List, [], _∷_}
 use Prim.Native.Nat.{ℕ, zero, suc, _+_, _-_, _*_, _/_, _%_, _<_}
 use native.Mathlib.Nat.{mod-lt, mod-eq-of-lt, mod-add-div', zero-mul, one-mul, add-zero, zero-mod}
 use native.Mathlib.Omega.{arith}
+use lib.Dec.{eqb}
 use Rattle.field.proofs.Remainders.{same-remainder}
 use Rattle.poly.specs.Coefficients.{at}
 use Rattle.poly.specs.Operations.{valueOf, productAt}
 use Rattle.poly_product.proofs.Products.{sum-first, sum-zeros}
+use Rattle.field.proofs.Moduli.{modulus-prime}
+use Rattle.format.specs.Bounds.{primeOf}
+use Rattle.header.specs.Header.{boundsOf}
+use Rattle.rows.specs.Rows.{jobPoint, jobValue}
+use Rattle.marked_rows.specs.declared.Mark.the-variants.{None, Pole}
+use Rattle.marked_rows.specs.Marks.{markAt}
 use Rattle.problem.specs.Rows.{wrongRow}
 use Rattle.problem.specs.Reduced.{Divides, Reduced}
-use Rattle.problem.proofs.Rows.{right-all}
+use Rattle.problem.specs.Answers.{wrongAt}
+use Rattle.problem.proofs.Rows.{right-all, unmarked-verdict, pole-verdict}
 
 module _ (p x : ℕ) (two : 1 < p) where
   -- the quotient of a by u - x: the values of a without its first coefficients
@@ -76,3 +84,14 @@ module _ (p x : ℕ) (two : 1 < p) where
           let constant = R .coprime (minus ∷ 1 ∷ []) (root-divides g root) (λ i l. root-divides (f i) (numerator i l)) 1 (omega arith) in
           let one = mod-eq-of-lt two in
           absurd (omega arith)
+
+-- row r of a job that stands at a root of g: it is wrong if its values are numbers, and right if it reports a pole
+module _ (s : List ℕ) {f : ℕ → List ℕ} {g : List ℕ} (R : Reduced (primeOf (boundsOf s)) (boundsOf s .outputs) f g) (r : ℕ)
+    (root : valueOf (primeOf (boundsOf s)) (jobPoint s r) g ≡ 0) where
+  pub root-unmarked : markAt s r ≡ None → wrongAt s f g r ≡ true
+  root-unmarked e =
+      unmarked-verdict (primeOf (boundsOf s)) (boundsOf s .outputs) (jobPoint s r) (jobValue s r) f g e
+      ∙ root-wrong (primeOf (boundsOf s)) (jobPoint s r) (modulus-prime (boundsOf s .prime) .two) R root (jobValue s r)
+
+  pub root-pole : markAt s r ≡ Pole → wrongAt s f g r ≡ false
+  root-pole e = pole-verdict (primeOf (boundsOf s)) (boundsOf s .outputs) (jobPoint s r) (jobValue s r) f g e ∙ ap (λ v. not (eqb v 0)) root

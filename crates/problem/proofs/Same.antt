@@ -13,7 +13,8 @@ use Rattle.word.proofs.Counts.{count-same}
 use Rattle.answer.specs.Bytes.{twoBytes, fourBytes, coefficientBytes, outputBytes, answerBytes}
 use Rattle.problem.specs.Reduced.{Divides, Reduced, Same}
 use Rattle.problem.specs.Answers.{wrongAt, wrongCount, Within, Answer, recoveredBytes}
-use Rattle.problem.proofs.Rows.{wrong-same}
+use Rattle.marked_rows.specs.Marks.{markAt}
+use Rattle.problem.proofs.Rows.{verdict-same}
 
 bounded-same : {p n : ℕ} {a b : List ℕ} → ((k : ℕ) → at a k ≡ at b k) → Bounded p n a → Bounded p n b
 bounded-same {p} e h = record { residues = λ k. subst (λ t. t < p) (e k) (h .residues k); within = λ k l. sym (e k) ∙ h .within k l }
@@ -48,7 +49,7 @@ reduced-cong e = reduced-same (same-if-equal e refl)
 module _ (s : List ℕ) {f f' : ℕ → List ℕ} {g g' : List ℕ} (h : Same (boundsOf s .outputs) f g f' g') where
   -- the same rows are wrong
   pub wrong-at-same : (r : ℕ) → wrongAt s f g r ≡ wrongAt s f' g' r
-  wrong-at-same r = wrong-same (primeOf (boundsOf s)) (jobPoint s r) (boundsOf s .outputs) f f' g g' (λ i l. refl) (h .numerators) (h .denominator)
+  wrong-at-same r = verdict-same (markAt s r) (primeOf (boundsOf s)) (jobPoint s r) (boundsOf s .outputs) f f' g g' (λ i l. refl) (h .numerators) (h .denominator)
 
   pub wrong-count-same : wrongCount s f g ≡ wrongCount s f' g'
   wrong-count-same = count-same (boundsOf s .rows) (wrongAt s f g) (wrongAt s f' g') (λ r l. wrong-at-same r)

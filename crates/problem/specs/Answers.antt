@@ -9,7 +9,8 @@ use Rattle.header.specs.Header.{boundsOf}
 use Rattle.rows.specs.Rows.{jobPoint, jobValue}
 use Rattle.word.specs.Word.{wordOf, countBelow}
 use Rattle.answer.specs.Bytes.{answerBytes}
-use Rattle.problem.specs.Rows.{wrongRow}
+use Rattle.marked_rows.specs.Marks.{markAt}
+use Rattle.problem.specs.Rows.{Verdict, verdictOf, isWrong}
 use Rattle.problem.specs.Reduced.{Reduced}
 
 -- coefficients from 0 to p - 1, and degrees within each output's bound and dg; "The zero polynomial meets every degree bound"
@@ -17,11 +18,15 @@ pub record Within (b : Bounds) (f : ℕ → List ℕ) (g : List ℕ) : Type 0 wh
   pub numerators : (i : ℕ) → i < b .outputs → Bounded (primeOf b) (numeratorBoundOf b i + 1) (f i)
   pub denominator : Bounded (primeOf b) (b .dg + 1) g
 
--- row r of the job is wrong for f and g
-abbrev pub wrongAt : List ℕ → (ℕ → List ℕ) → List ℕ → ℕ → Bool
-wrongAt s f g r = wrongRow (primeOf (boundsOf s)) (boundsOf s .outputs) (jobPoint s r) (jobValue s r) f g
+-- what row r of the job is for f and g
+abbrev pub verdictAt : List ℕ → (ℕ → List ℕ) → List ℕ → ℕ → Verdict
+verdictAt s f g r = verdictOf (markAt s r) (primeOf (boundsOf s)) (boundsOf s .outputs) (jobPoint s r) (jobValue s r) f g
 
--- how many of its rows are
+-- row r is wrong; so it speaks
+abbrev pub wrongAt : List ℕ → (ℕ → List ℕ) → List ℕ → ℕ → Bool
+wrongAt s f g r = isWrong (verdictAt s f g r)
+
+-- how many rows are
 abbrev pub wrongCount : List ℕ → (ℕ → List ℕ) → List ℕ → ℕ
 wrongCount s f g = countBelow (boundsOf s .rows) (wrongAt s f g)
 

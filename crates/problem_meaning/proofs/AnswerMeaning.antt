@@ -12,7 +12,20 @@ use Rattle.lists.proofs.Truth.{clash}
 use Rattle.algebra.proofs.Series.{Series}
 use Rattle.algebra.proofs.Value.{value}
 use Rattle.method.proofs.Vectors.{ReducedVector}
-use Rattle.method.proofs.Problem.{Answer as MethodAnswer, Right, wrongCount as methodWrongCount, wrongCount-zero, wrongCount-right, wrongCount-wrong, Evaluation}
+use Rattle.method.proofs.Problem.{
+  Answer as MethodAnswer,
+  Right,
+  Silent as SilentRow,
+  speakingBelow,
+  speakingBelow-zero,
+  speakingBelow-silent,
+  speakingBelow-speaks,
+  wrongCount as methodWrongCount,
+  wrongCount-zero,
+  wrongCount-right,
+  wrongCount-wrong,
+  Evaluation,
+}
 use Rattle.reciprocal.proofs.PrimeField.{Residue, residue, residue-mul, equal-residue}
 use Rattle.format.specs.Bounds.{primeOf, numeratorBoundOf, Sized}
 use Rattle.poly.specs.Coefficients.{at}
@@ -21,11 +34,15 @@ use Rattle.lists.proofs.Tabulated.{at-past, at-tabulate, length-tabulate}
 use Rattle.poly.proofs.Values.{value-below}
 use Rattle.poly_meaning.proofs.Series.{series-at, series-below, residue-mod, residue-zero, value-means-bounded}
 use Rattle.header.specs.Header.{boundsOf}
-use Rattle.rows.specs.Rows.{jobPoint, jobValue, jobPoints, jobValues}
-use Rattle.rows.proofs.Entries.{points-at, values-at}
-use Rattle.job.proofs.Facts.{WellFormedFacts, each-enough}
+use Rattle.rows.specs.Rows.{jobPoint, jobValue}
+use Rattle.marked_rows.specs.declared.Mark.{Mark}
+use Rattle.marked_rows.specs.declared.Mark.the-variants.{None, Pole, Silent}
+use Rattle.marked_rows.specs.Marks.{markAt, speaking, speaks, speakingCount}
+use Rattle.marked_rows.specs.Table.{weightOf, sideOf, jobPoints, jobWeights, jobValues}
+use Rattle.marked_rows.proofs.Entries.{points-at, weights-at, values-at}
+use Rattle.job.proofs.Facts.{WellFormedFacts, each-enough, each-speaking}
+use Rattle.judge.proofs.JobRows.{conditions-met, met-conditions, same-wrong}
 use Rattle.word.specs.Word.{flagOf, countBelow}
-use Rattle.problem.proofs.Rows.{right-all, all-right}
 use Rattle.problem.specs.Reduced.{Reduced}
 use Rattle.problem.specs.Answers.{wrongAt, Within, Answer}
 use Rattle.problem_meaning.proofs.Tables.{P, R, F, poly, evaluation, problem, Usable}
@@ -58,6 +75,25 @@ module _ (s : List ℕ) {area : ℕ} (W : WellFormedFacts s area) where
           let h = positive in
           omega arith
 
+  pub weights-below : (r : ℕ) → at (jobWeights s) r < 2
+  unfolding jobWeights
+  weights-below r = by (decLt r 32) (decLt r (boundsOf s .rows))
+    where
+      low : (m : Mark) → weightOf m < 2
+      low None = omega arith
+      low Pole = omega arith
+      low Silent = omega arith
+
+      by : Dec (r < 32) → Dec (r < boundsOf s .rows) → at (jobWeights s) r < 2
+      by (no large) d =
+          let e = at-past (jobWeights s) r (let n = length-tabulate 32 (λ r. cond (ltb r (boundsOf s .rows)) (weightOf (markAt s r)) 0) in omega arith) in
+          omega arith
+      by (yes small) (yes is-row) = subst (λ t. t < 2) (sym (weights-at s r is-row)) (low (markAt s r))
+      by (yes small) (no none) =
+          let past : boundsOf s .rows ≤ r = omega arith in
+          let e : at (jobWeights s) r ≡ 0 = at-tabulate 32 _ r small ∙ rw (le-ltb r (boundsOf s .rows) past) in
+          omega arith
+
   pub sized : Sized (boundsOf s)
   sized = record {
     outputs = W .fields .outputs-most;
@@ -65,17 +101,59 @@ module _ (s : List ℕ) {area : ℕ} (W : WellFormedFacts s area) where
     enough = each-enough W;
   }
 
-  pub usable : Usable (boundsOf s) (jobPoints s)
+  -- the rows, as the code holds them
+  abbrev pub row : ℕ → Evaluation (R (boundsOf s))
+  row = evaluation (boundsOf s) (jobPoints s) (jobWeights s) (jobValues s)
+
+  -- which of them are silent
+  module _ (r : ℕ) (lr : r < boundsOf s .rows) where
+    weight-is : (m : Mark) → markAt s r ≡ m → row r .weight ≡ ρ (weightOf m)
+    weight-is m e = ap ρ (weights-at s r lr ∙ ap weightOf e)
+
+    value-is : (m : Mark) → markAt s r ≡ m → (i : ℕ) → i < boundsOf s .outputs → row r .values i ≡ ρ (sideOf m (jobValue s r i))
+    value-is m e i li = ap ρ (values-at s r i lr li ∙ ap (λ m. sideOf m (jobValue s r i)) e)
+
+    silent-means : markAt s r ≡ Silent → SilentRow (F (boundsOf s)) (boundsOf s .outputs) (row r)
+    silent-means e = (weight-is Silent e, λ i li. value-is Silent e i li)
+
+    -- a row with one condition that asks nothing is silent
+    silent-if : (i : ℕ) → i < boundsOf s .outputs → row r .weight ≡ ρ 0 → row r .values i ≡ ρ 0 → markAt s r ≡ Silent
+    silent-if i li weight value = by (markAt s r) refl
+      where
+        by : (m : Mark) → markAt s r ≡ m → m ≡ Silent
+        by None e = absurd (F (boundsOf s) .one≢null (sym (weight-is None e) ∙ weight))
+        by Pole e = absurd (F (boundsOf s) .one≢null (sym (value-is Pole e i li) ∙ value))
+        by Silent e = refl
+
+  speaking-means : (L : ℕ) → L ≤ boundsOf s .rows → speakingBelow (F (boundsOf s)) (boundsOf s .outputs) row L ≡ countBelow L (speaks s)
+  unfolding countBelow
+  speaking-means zero l = speakingBelow-zero (F (boundsOf s)) (boundsOf s .outputs) row
+  speaking-means (suc r) l = by (markAt s r) refl (speaking-means r (omega arith))
+    where
+      first : 0 < boundsOf s .outputs
+      first = let n = W .fields .outputs-least in omega arith
+
+      loud : {m : Mark} → markAt s r ≡ m → (m ≡ Silent → ⊥) → SilentRow (F (boundsOf s)) (boundsOf s .outputs) (row r) → ⊥
+      loud e other silent = other (sym e ∙ silent-if r l 0 first (silent .0) (silent .1 0 first))
+
+      by : (m : Mark) → markAt s r ≡ m → speakingBelow (F (boundsOf s)) (boundsOf s .outputs) row r ≡ countBelow r (speaks s)
+          → speakingBelow (F (boundsOf s)) (boundsOf s .outputs) row (suc r) ≡ countBelow r (speaks s) + flagOf (speaking m)
+      by None e same = let more = speakingBelow-speaks (F (boundsOf s)) (boundsOf s .outputs) row r (loud e (λ h. clash cc)) in omega arith
+      by Pole e same = let more = speakingBelow-speaks (F (boundsOf s)) (boundsOf s .outputs) row r (loud e (λ h. clash cc)) in omega arith
+      by Silent e same = let more = speakingBelow-silent (F (boundsOf s)) (boundsOf s .outputs) row r (silent-means r l e) in omega arith
+
+  pub usable : Usable (boundsOf s) (speakingCount s) (jobPoints s) (jobWeights s) (jobValues s)
+  unfolding speakingCount
   usable = record {
     sized = sized;
     points-below = points-below;
+    weights-below = weights-below;
     distinct = λ i j l l' e.
         (let same = W .distinct i j (omega arith) l' (sym (points-at s i (omega arith)) ∙ e ∙ points-at s j l') in omega arith);
+    clear = λ r lr i li weight value. silent-means r lr (silent-if r lr i li weight value);
+    speaking = speaking-means (boundsOf s .rows) (omega arith);
+    enough = each-speaking W;
   }
-
-  -- the rows, as the code holds them
-  abbrev pub row : ℕ → Evaluation (R (boundsOf s))
-  row = evaluation (boundsOf s) (jobPoints s) (jobValues s)
 
   module _ {f : ℕ → List ℕ} {g : List ℕ} (within : Within (boundsOf s) f g) where
     abbrev pub fs : ℕ → Series (R (boundsOf s))
@@ -90,26 +168,35 @@ module _ (s : List ℕ) {area : ℕ} (W : WellFormedFacts s area) where
     pub value-g : (x : ℕ) → ρ (valueOf p x g) ≡ value (R (boundsOf s)) 32 gs (ρ x)
     value-g x = value-means-bounded p (P (boundsOf s)) 32 x (within .denominator) (let n = W .fields .dg-most in omega arith)
 
-    -- the right side of a row's condition
+    -- the two sides of a row's condition
+    left-side : (i : ℕ) → i < boundsOf s .outputs → (c x : ℕ) → ρ (c * valueOf p x (f i)) ≡ R (boundsOf s) .mul (ρ c) (value (R (boundsOf s)) 32 (fs i) (ρ x))
+    left-side i li c x = sym (residue-mul p (P (boundsOf s)) c _) ∙ ap (R (boundsOf s) .mul (ρ c)) (value-f i li x)
+
     right-side : (x y : ℕ) → ρ (valueOf p x g * y % p) ≡ R (boundsOf s) .mul (value (R (boundsOf s)) 32 gs (ρ x)) (ρ y)
     right-side x y = residue-mod p (P (boundsOf s)) _ ∙ sym (residue-mul p (P (boundsOf s)) _ y) ∙ ap (λ t. R (boundsOf s) .mul t (ρ y)) (value-g x)
 
     pub right-means : (r : ℕ) → r < boundsOf s .rows → wrongAt s f g r ≡ false → Right (F (boundsOf s)) 32 (boundsOf s .outputs) fs gs (row r)
     right-means r lr e i li =
-        rw (points-at s r lr, values-at s r i lr li)
-        (sym (value-f i li (jobPoint s r)) ∙ ap ρ (right-all p (jobPoint s r) (jobValue s r) f g (boundsOf s .outputs) e i li) ∙ right-side (jobPoint s r) (jobValue s r i))
+        sym (left-side i li (at (jobWeights s) r) (at (jobPoints s) r))
+        ∙ ap ρ (conditions-met p (at (jobWeights s) r) (at (jobPoints s) r) (λ i. at (jobValues s) (r * 4 + i)) f g (boundsOf s .outputs) (same-wrong s f g r lr ∙ e) i li)
+        ∙ right-side (at (jobPoints s) r) (at (jobValues s) (r * 4 + i))
 
     means-right : (r : ℕ) → r < boundsOf s .rows → Right (F (boundsOf s)) 32 (boundsOf s .outputs) fs gs (row r) → wrongAt s f g r ≡ false
-    means-right r lr h = all-right p (jobPoint s r) (jobValue s r) f g (boundsOf s .outputs) equal
+    means-right r lr h =
+        sym (same-wrong s f g r lr)
+        ∙ met-conditions p (at (jobWeights s) r) (at (jobPoints s) r) (λ i. at (jobValues s) (r * 4 + i)) f g (boundsOf s .outputs) equal
       where
-        condition : (i : ℕ) → i < boundsOf s .outputs
-            → value (R (boundsOf s)) 32 (fs i) (ρ (jobPoint s r)) ≡ R (boundsOf s) .mul (value (R (boundsOf s)) 32 gs (ρ (jobPoint s r))) (ρ (jobValue s r i))
-        condition i li = rw (points-at s r lr, values-at s r i lr li) at (h i li)
+        small : (c v : ℕ) → c < 2 → v < p → c * v < p
+        small zero v l lv = omega arith
+        small (suc zero) v l lv = omega arith
+        small (suc (suc c)) v l lv = absurd (omega arith)
 
-        equal : (i : ℕ) → i < boundsOf s .outputs → valueOf p (jobPoint s r) (f i) ≡ valueOf p (jobPoint s r) g * jobValue s r i % p
+        equal : (i : ℕ) → i < boundsOf s .outputs
+            → at (jobWeights s) r * valueOf p (at (jobPoints s) r) (f i) ≡ valueOf p (at (jobPoints s) r) g * at (jobValues s) (r * 4 + i) % p
         equal i li =
-            sym (mod-eq-of-lt (value-below p (jobPoint s r) (f i) positive))
-            ∙ equal-residue p (P (boundsOf s)) _ _ (value-f i li (jobPoint s r) ∙ condition i li ∙ sym (right-side (jobPoint s r) (jobValue s r i)))
+            sym (mod-eq-of-lt (small _ _ (weights-below r) (value-below p (at (jobPoints s) r) (f i) positive)))
+            ∙ equal-residue p (P (boundsOf s)) _ _
+            (left-side i li (at (jobWeights s) r) (at (jobPoints s) r) ∙ h i li ∙ sym (right-side (at (jobPoints s) r) (at (jobValues s) (r * 4 + i))))
             ∙ mod-eq-of-lt (mod-lt _ positive)
 
     pub count-means : (L : ℕ) → L ≤ boundsOf s .rows
@@ -144,14 +231,14 @@ module _ (s : List ℕ) {area : ℕ} (W : WellFormedFacts s area) where
   }
 
   pub answer-means : {f : ℕ → List ℕ} {g : List ℕ} → Answer s f g
-      → MethodAnswer (F (boundsOf s)) 32 (problem (boundsOf s) (jobPoints s) (jobValues s)) (λ i. poly (boundsOf s) (f i)) (poly (boundsOf s) g)
+      → MethodAnswer (F (boundsOf s)) 32 (problem (boundsOf s) (jobPoints s) (jobWeights s) (jobValues s)) (λ i. poly (boundsOf s) (f i)) (poly (boundsOf s) g)
   answer-means a = record {
     vector = vector-means (a .within) (a .reduced);
     few-wrong = (let e = count-means (a .within) (boundsOf s .rows) (omega arith) in let h = a .few-wrong in omega arith);
   }
 
   pub means-answer : {f : ℕ → List ℕ} {g : List ℕ} → Within (boundsOf s) f g
-      → MethodAnswer (F (boundsOf s)) 32 (problem (boundsOf s) (jobPoints s) (jobValues s)) (λ i. poly (boundsOf s) (f i)) (poly (boundsOf s) g)
+      → MethodAnswer (F (boundsOf s)) 32 (problem (boundsOf s) (jobPoints s) (jobWeights s) (jobValues s)) (λ i. poly (boundsOf s) (f i)) (poly (boundsOf s) g)
       → Answer s f g
   means-answer {f} {g} within a = record {
     within = within;

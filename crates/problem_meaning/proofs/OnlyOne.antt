@@ -9,7 +9,8 @@ use Rattle.format.specs.Bounds.{primeOf}
 use Rattle.poly.specs.Coefficients.{at, Bounded}
 use Rattle.poly_meaning.proofs.Series.{series-at}
 use Rattle.header.specs.Header.{boundsOf}
-use Rattle.rows.specs.Rows.{jobPoints, jobValues}
+use Rattle.marked_rows.specs.Marks.{speakingCount}
+use Rattle.marked_rows.specs.Table.{jobPoints, jobWeights, jobValues}
 use Rattle.job.proofs.Facts.{WellFormedFacts}
 use Rattle.problem.specs.Reduced.{Same}
 use Rattle.problem.specs.Answers.{Answer}
@@ -25,8 +26,8 @@ at-most-one s W {f} {f'} {g} {g'} a a' = record {
   where
     both : (poly (boundsOf s) g ≡ poly (boundsOf s) g') × ((i : ℕ) → i < boundsOf s .outputs → poly (boundsOf s) (f i) ≡ poly (boundsOf s) (f' i))
     both =
-        unique (F (boundsOf s)) 32 (problem (boundsOf s) (jobPoints s) (jobValues s)) (ample (boundsOf s) (jobPoints s) (jobValues s) (usable s W))
-        (capacity (boundsOf s) (jobPoints s) (jobValues s) (usable s W)) (answer-means s W a) (answer-means s W a')
+        unique (F (boundsOf s)) 32 (problem (boundsOf s) (jobPoints s) (jobWeights s) (jobValues s)) (ample (boundsOf s) (speakingCount s) (jobPoints s) (jobWeights s) (jobValues s) (usable s W))
+        (capacity (boundsOf s) (speakingCount s) (jobPoints s) (jobWeights s) (jobValues s) (usable s W)) (answer-means s W a) (answer-means s W a')
 
     equal : {n : ℕ} (x y : List ℕ) → Bounded (primeOf (boundsOf s)) n x → Bounded (primeOf (boundsOf s)) n y → poly (boundsOf s) x ≡ poly (boundsOf s) y → (k : ℕ) → at x k ≡ at y k
     equal x y bx by e k =

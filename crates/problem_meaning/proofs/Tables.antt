@@ -1,14 +1,14 @@
 -- The rows as the code holds them, as a problem of the method.
-use mathlib.Core.Path.{sym, _∙_}
 use mathlib.Core.Logic.{_≢_}
 use mathlib.Core.List.{List}
-use Prim.Native.Nat.{ℕ, _+_, _-_, _*_, _<_}
+use mathlib.Core.Path.{_≡_, sym, _∙_}
+use Prim.Native.Nat.{ℕ, _+_, _-_, _*_, _≤_, _<_}
 use native.Mathlib.Nat.{mod-eq-of-lt}
 use native.Mathlib.Omega.{arith}
 use Rattle.algebra.proofs.Ring.{Ring}
 use Rattle.algebra.proofs.Field.{Field}
 use Rattle.algebra.proofs.Series.{Series}
-use Rattle.method.proofs.Problem.{Evaluation, Problem, Ample}
+use Rattle.method.proofs.Problem.{Evaluation, Problem, Clear, speakingCount, Ample}
 use Rattle.field.proofs.Primality.{IsPrime}
 use Rattle.field.proofs.Moduli.{modulus-prime}
 use Rattle.reciprocal.proofs.PrimeField.{residue, equal-residue, residueRing, residueField}
@@ -32,43 +32,49 @@ module _ (b : Bounds) where
   abbrev pub poly : List ℕ → Series (residueRing (primeOf b) (modulus-prime (b .prime)))
   poly a = series (primeOf b) (modulus-prime (b .prime)) a
 
-  abbrev pub evaluation : List ℕ → List ℕ → ℕ → Evaluation (residueRing (primeOf b) (modulus-prime (b .prime)))
-  evaluation points values l =
+  abbrev pub evaluation : (points weights values : List ℕ) → ℕ → Evaluation (residueRing (primeOf b) (modulus-prime (b .prime)))
+  evaluation points weights values l =
       record {
         point = residue (primeOf b) (modulus-prime (b .prime)) (at points l);
+        weight = residue (primeOf b) (modulus-prime (b .prime)) (at weights l);
         values = λ i. residue (primeOf b) (modulus-prime (b .prime)) (at values (l * 4 + i));
       }
 
-  abbrev pub problem : List ℕ → List ℕ → Problem (residueRing (primeOf b) (modulus-prime (b .prime)))
-  problem points values =
+  abbrev pub problem : (points weights values : List ℕ) → Problem (residueRing (primeOf b) (modulus-prime (b .prime)))
+  problem points weights values =
       record {
         outputs = b .outputs;
         bound = numeratorBoundOf b;
         denominatorBound = b .dg;
         errors = b .errors;
         count = b .rows;
-        row = evaluation points values;
+        row = evaluation points weights values;
       }
 
--- what the rows keep to: sizes, residues, and distinct points
-pub record Usable (b : Bounds) (points : List ℕ) : Type 0 where
+-- what the rows keep to: sizes, residues, distinct points, marks, and S of them that speak, enough for every output
+pub record Usable (b : Bounds) (S : ℕ) (points weights values : List ℕ) : Type 0 where
   pub sized : Sized b
   pub points-below : (l : ℕ) → at points l < primeOf b
+  pub weights-below : (l : ℕ) → at weights l < 2
   pub distinct : (i j : ℕ) → i < j → j < b .rows → at points i ≢ at points j
+  pub clear : Clear (F b) (b .outputs) (evaluation b points weights values) (b .rows)
+  pub speaking : speakingCount (F b) (problem b points weights values) ≡ S
+  pub enough : (i : ℕ) → numeratorBoundOf b i + b .dg + 2 * b .errors + 1 ≤ S
 
-module _ (b : Bounds) (points values : List ℕ) (U : Usable b points) where
+module _ (b : Bounds) (S : ℕ) (points weights values : List ℕ) (U : Usable b S points weights values) where
   abbrev p : ℕ
   p = primeOf b
 
   abbrev T : Problem (R b)
-  T = problem b points values
+  T = problem b points weights values
 
-  pub ample : Ample (F b) (problem b points values)
+  pub ample : Ample (F b) (problem b points weights values)
   ample = record {
     distinct = λ i j l l' e. U .distinct i j l l'
         (sym (mod-eq-of-lt (U .points-below i)) ∙ equal-residue p (P b) _ _ e ∙ mod-eq-of-lt (U .points-below j));
-    room = (let h = U .sized .enough 0 in omega arith);
-    enough = λ i l. (let h = U .sized .enough i in omega arith);
+    clear = U .clear;
+    room = (let h = U .enough 0 in omega (arith, U .speaking));
+    enough = λ i l. (let h = U .enough i in omega (arith, U .speaking));
   }
 
   pub capacity : b .rows < 32

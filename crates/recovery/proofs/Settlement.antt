@@ -9,50 +9,58 @@ use Rattle.lists.proofs.Truth.{clash}
 use Rattle.method.proofs.Problem.{None}
 use Rattle.method.proofs.LastTest.{candidate-is-answer, none-if-many-wrong}
 use Rattle.header.specs.Header.{boundsOf}
-use Rattle.rows.specs.Rows.{jobPoints, jobValues}
-use Rattle.job.proofs.Facts.{WellFormedFacts}
+use Rattle.word.proofs.Counts.{count-most}
+use Rattle.marked_rows.specs.Marks.{speaks, speakingCount}
+use Rattle.marked_rows.specs.Table.{jobPoints, jobWeights, jobValues}
+use Rattle.job.proofs.Facts.{WellFormedFacts, each-speaking}
 use Rattle.vector.specs.declared.Candidate.{Candidate}
 use Rattle.extension.specs.Extensions.{numeratorAt}
 use Rattle.candidate.specs.Candidates.{Table, candidateAfter}
 use Rattle.problem.specs.Answers.{wrongCount, Within, Answer, Unsolvable}
 use Rattle.problem_meaning.proofs.Tables.{F, problem}
-use Rattle.problem_meaning.proofs.AnswerMeaning.{points-below, usable, answer-means, means-answer, count-means}
+use Rattle.problem_meaning.proofs.AnswerMeaning.{points-below, weights-below, usable, answer-means, means-answer, count-means}
 use Rattle.soundness.proofs.Candidates.{Good, Verdict}
 use Rattle.soundness.proofs.Verdicts.{verdict}
 
 module _ (s : List ℕ) {area : ℕ} (W : WellFormedFacts s area) where
-  pub table : Table (boundsOf s) (jobPoints s)
-  table = record { points-below = points-below s W }
+  pub table : Table (boundsOf s) (speakingCount s) (jobPoints s) (jobWeights s)
+  unfolding speakingCount
+  table = record {
+    points-below = points-below s W;
+    weights-below = weights-below s W;
+    speaking-enough = omega (arith, each-speaking W 0);
+    speaking-most = count-most (boundsOf s .rows) (speaks s);
+  }
 
   -- what the code holds after the last output
   abbrev pub last : Candidate
-  last = candidateAfter (boundsOf s) (jobPoints s) (jobValues s) (boundsOf s .outputs)
+  last = candidateAfter (boundsOf s) (speakingCount s) (jobPoints s) (jobWeights s) (jobValues s) (boundsOf s .outputs)
 
   abbrev pub numerators : ℕ → List ℕ
-  numerators i = numeratorAt (candidateAfter (boundsOf s) (jobPoints s) (jobValues s) (boundsOf s .outputs)) i
+  numerators i = numeratorAt (candidateAfter (boundsOf s) (speakingCount s) (jobPoints s) (jobWeights s) (jobValues s) (boundsOf s .outputs)) i
 
   abbrev pub denominator : List ℕ
-  denominator = candidateAfter (boundsOf s) (jobPoints s) (jobValues s) (boundsOf s .outputs) .g .c
+  denominator = candidateAfter (boundsOf s) (speakingCount s) (jobPoints s) (jobWeights s) (jobValues s) (boundsOf s .outputs) .g .c
 
-  none-unsolvable : None (F (boundsOf s)) 32 (problem (boundsOf s) (jobPoints s) (jobValues s)) → Unsolvable s
+  none-unsolvable : None (F (boundsOf s)) 32 (problem (boundsOf s) (jobPoints s) (jobWeights s) (jobValues s)) → Unsolvable s
   none-unsolvable none f g a = none _ _ (answer-means s W a)
 
-  good-within : Good (boundsOf s) (jobPoints s) (jobValues s) (usable s W) (boundsOf s .outputs) last → Within (boundsOf s) numerators denominator
+  good-within : Good (boundsOf s) (speakingCount s) (jobPoints s) (jobWeights s) (jobValues s) (usable s W) (boundsOf s .outputs) last → Within (boundsOf s) numerators denominator
   good-within G = record { numerators = λ i li. G .fitting .numerators i; denominator = G .fitting .denominator }
 
   -- no candidate: there is no answer
   pub unsolvable-early : last .solvable ≡ false → Unsolvable s
-  unsolvable-early e = by (verdict (boundsOf s) (jobPoints s) (jobValues s) (usable s W) (boundsOf s .outputs) (omega arith))
+  unsolvable-early e = by (verdict (boundsOf s) (speakingCount s) (jobPoints s) (jobWeights s) (jobValues s) (usable s W) (boundsOf s .outputs) (omega arith))
     where
-      by : Verdict (boundsOf s) (jobPoints s) (jobValues s) (usable s W) (boundsOf s .outputs) last → Unsolvable s
+      by : Verdict (boundsOf s) (speakingCount s) (jobPoints s) (jobWeights s) (jobValues s) (usable s W) (boundsOf s .outputs) last → Unsolvable s
       by (inl G) = clash (sym (G .0) ∙ e)
       by (inr none) = none-unsolvable (none .1)
 
   -- a candidate with few wrong rows is the answer
   pub solved : last .solvable ≡ true → wrongCount s numerators denominator ≤ boundsOf s .errors → Answer s numerators denominator
-  solved e few = by (verdict (boundsOf s) (jobPoints s) (jobValues s) (usable s W) (boundsOf s .outputs) (omega arith))
+  solved e few = by (verdict (boundsOf s) (speakingCount s) (jobPoints s) (jobWeights s) (jobValues s) (usable s W) (boundsOf s .outputs) (omega arith))
     where
-      by : Verdict (boundsOf s) (jobPoints s) (jobValues s) (usable s W) (boundsOf s .outputs) last → Answer s numerators denominator
+      by : Verdict (boundsOf s) (speakingCount s) (jobPoints s) (jobWeights s) (jobValues s) (usable s W) (boundsOf s .outputs) last → Answer s numerators denominator
       by (inl G) =
           let within = good-within (G .1) in
           let count = count-means s W within (boundsOf s .rows) (omega arith) in
@@ -61,9 +69,9 @@ module _ (s : List ℕ) {area : ℕ} (W : WellFormedFacts s area) where
 
   -- a candidate with too many wrong rows: there is no answer
   pub unsolvable-late : last .solvable ≡ true → boundsOf s .errors < wrongCount s numerators denominator → Unsolvable s
-  unsolvable-late e many = by (verdict (boundsOf s) (jobPoints s) (jobValues s) (usable s W) (boundsOf s .outputs) (omega arith))
+  unsolvable-late e many = by (verdict (boundsOf s) (speakingCount s) (jobPoints s) (jobWeights s) (jobValues s) (usable s W) (boundsOf s .outputs) (omega arith))
     where
-      by : Verdict (boundsOf s) (jobPoints s) (jobValues s) (usable s W) (boundsOf s .outputs) last → Unsolvable s
+      by : Verdict (boundsOf s) (speakingCount s) (jobPoints s) (jobWeights s) (jobValues s) (usable s W) (boundsOf s .outputs) last → Unsolvable s
       by (inl G) =
           let count = count-means s W (good-within (G .1)) (boundsOf s .rows) (omega arith) in
           none-unsolvable (none-if-many-wrong (F (boundsOf s)) 32 _ (G .1 .candidate) (omega arith))

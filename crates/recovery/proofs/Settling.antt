@@ -14,7 +14,8 @@ use Rattle.format.specs.Outcomes.{refusedReport, recoveredReport, reportOf}
 use Rattle.format.specs.Bounds.{answerLengthOf}
 use Rattle.poly.specs.Vectors.{coefficientsAt}
 use Rattle.header.specs.Header.{boundsOf}
-use Rattle.rows.specs.Rows.{jobPoints, jobValues}
+use Rattle.marked_rows.specs.Marks.{speakingCount}
+use Rattle.marked_rows.specs.Table.{jobPoints, jobWeights, jobValues}
 use Rattle.job.specs.declared.reading.Reading.{Reading}
 use Rattle.job.specs.Refusals.{outcomeOf, WellFormed}
 use Rattle.job.specs.Reading.{readingOf}
@@ -42,7 +43,7 @@ module _ (s area : List ℕ) where
     where
       early : RefusedEarly s area r after → Early (outcomeOf s (length area)) → r .refusal ≡ 8 → ⊥
       early e (inl accepted) n = e .malformed accepted
-      early e (inr number) n = let same = ap (λ t. t .refusal) (e .report) in let eleven = number .2 (omega arith) in omega arith
+      early e (inr number) n = let same = ap (λ t. t .refusal) (e .report) in let eleven = number .2 (omega arith) in omega (arith, eleven .0)
 
       by : RefusedEarly s area r after ⊎ (Answered s area r after ⊎ RefusedUnsolvable s area r after)
           → (r .refusal ≡ 8) ↔ (WellFormed s (length area) × Unsolvable s)
@@ -77,11 +78,11 @@ module _ (s area : List ℕ) where
     abbrev g : List ℕ
     g = denominator s W
 
-    word-means : wordBy (boundsOf s) (jobPoints s) (jobValues s) (last s W) ≡ wordFor s f g
+    word-means : wordBy (boundsOf s) (jobPoints s) (jobWeights s) (jobValues s) (last s W) ≡ wordFor s f g
     unfolding wordBy
     word-means = word-same _ _ _ (same-wrong s f g)
 
-    count-means : wrongCountOf (wordBy (boundsOf s) (jobPoints s) (jobValues s) (last s W)) ≡ wrongCount s f g
+    count-means : wrongCountOf (wordBy (boundsOf s) (jobPoints s) (jobWeights s) (jobValues s) (last s W)) ≡ wrongCount s f g
     count-means = ap wrongCountOf word-means ∙ count-of-word (boundsOf s .rows) (wrongAt s f g) (let n = W .fields .rows-most in omega arith)
 
     -- the solver's result where there is an answer
@@ -91,40 +92,40 @@ module _ (s area : List ℕ) where
     abbrev Cases : Solution → Type 0
     Cases t = ((t .solvable ≡ false) × Unsolvable s) ⊎ (Answer s f g × (t ≡ answered))
 
-    few : last s W .solvable ≡ true → wrongCount s f g ≤ boundsOf s .errors → Cases (solutionFor (boundsOf s) (jobPoints s) (jobValues s))
+    few : last s W .solvable ≡ true → wrongCount s f g ≤ boundsOf s .errors → Cases (solutionFor (boundsOf s) (speakingCount s) (jobPoints s) (jobWeights s) (jobValues s))
     few e l =
         inr (
           solved s W e l,
-          sym (counted-few (boundsOf s) (jobPoints s) (jobValues s) (last s W) (sym word-means) (sym word-count) l
-              ∙ judged-solvable (boundsOf s) (jobPoints s) (jobValues s) (last s W) e),
+          sym (counted-few (boundsOf s) (jobPoints s) (jobWeights s) (jobValues s) (last s W) (sym word-means) (sym word-count) l
+              ∙ judged-solvable (boundsOf s) (jobPoints s) (jobWeights s) (jobValues s) (last s W) e),
         )
       where
         word-count : wrongCountOf (wordFor s f g) ≡ wrongCount s f g
         word-count = ap wrongCountOf (sym word-means) ∙ count-means
 
-    many : last s W .solvable ≡ true → boundsOf s .errors < wrongCount s f g → Cases (solutionFor (boundsOf s) (jobPoints s) (jobValues s))
+    many : last s W .solvable ≡ true → boundsOf s .errors < wrongCount s f g → Cases (solutionFor (boundsOf s) (speakingCount s) (jobPoints s) (jobWeights s) (jobValues s))
     unfolding unsolvedSolution
     many e l =
         inl (
-          ap (λ t. t .solvable) (sym (counted-many (boundsOf s) (jobPoints s) (jobValues s) (last s W) (omega (arith, count-means))
-              ∙ judged-solvable (boundsOf s) (jobPoints s) (jobValues s) (last s W) e)),
+          ap (λ t. t .solvable) (sym (counted-many (boundsOf s) (jobPoints s) (jobWeights s) (jobValues s) (last s W) (omega (arith, count-means))
+              ∙ judged-solvable (boundsOf s) (jobPoints s) (jobWeights s) (jobValues s) (last s W) e)),
           unsolvable-late s W e l,
         )
 
-    none : last s W .solvable ≡ false → Cases (solutionFor (boundsOf s) (jobPoints s) (jobValues s))
+    none : last s W .solvable ≡ false → Cases (solutionFor (boundsOf s) (speakingCount s) (jobPoints s) (jobWeights s) (jobValues s))
     unfolding unsolvedSolution
     none e =
-        inl (ap (λ t. t .solvable) (sym (judged-unsolvable (boundsOf s) (jobPoints s) (jobValues s) (last s W) e)), unsolvable-early s W e)
+        inl (ap (λ t. t .solvable) (sym (judged-unsolvable (boundsOf s) (jobPoints s) (jobWeights s) (jobValues s) (last s W) e)), unsolvable-early s W e)
 
-    cases : Cases (solutionFor (boundsOf s) (jobPoints s) (jobValues s))
+    cases : Cases (solutionFor (boundsOf s) (speakingCount s) (jobPoints s) (jobWeights s) (jobValues s))
     cases = by (last s W .solvable) refl (decLt (boundsOf s .errors) (wrongCount s f g))
       where
-        by : (t : Bool) → last s W .solvable ≡ t → Dec (boundsOf s .errors < wrongCount s f g) → Cases (solutionFor (boundsOf s) (jobPoints s) (jobValues s))
+        by : (t : Bool) → last s W .solvable ≡ t → Dec (boundsOf s .errors < wrongCount s f g) → Cases (solutionFor (boundsOf s) (speakingCount s) (jobPoints s) (jobWeights s) (jobValues s))
         by false e d = none e
         by true e (yes l) = many e l
         by true e (no l) = few e (omega arith)
 
-    module _ (t : Solution) (e : t ≡ solutionFor (boundsOf s) (jobPoints s) (jobValues s)) where
+    module _ (t : Solution) (e : t ≡ solutionFor (boundsOf s) (speakingCount s) (jobPoints s) (jobWeights s) (jobValues s)) where
       pub settle-unsolved : t .solvable ≡ false → Settled s area (refusedReport 8 0) area
       settle-unsolved unsolved = by (subst Cases (sym e) cases)
         where

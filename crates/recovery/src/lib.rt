@@ -16,7 +16,8 @@ pub fn recover(job: &[u8], area: &mut [u8]) -> Outcome
     let b = reading.bounds;
     let points = reading.points;
     let values = reading.values;
-    let s = solver::solve(b, points, values);
+    let weights = reading.weights;
+    let s = solver::solve(b, reading.speaking, points, weights, values);
     if !s.solvable {
         return Outcome::Refused {
             reason: Reason::NoAnswer,

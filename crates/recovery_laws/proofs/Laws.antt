@@ -69,16 +69,16 @@ module _ (s area : List ℕ) where
       by (inr (inl A)) o = inr (let same = ap (λ t. t .written) (A .report) in omega arith)
       by (inr (inr u)) o = inl (let same = ap (λ t. t .refusal) (u .report) in omega arith)
 
-  -- its refusals are those of paper 01's table, numbered up to 8, but for 2, and paper 02's 11
-  pub refusals-given : {r : Report} {after : List ℕ} → Settled s area r after → (r .refusal ≡ 2 → ⊥) × (8 < r .refusal → r .refusal ≡ 11)
+  -- its refusals are those of paper 01's table, numbered up to 8, but for 2, and paper 02's 11 and 12
+  pub refusals-given : {r : Report} {after : List ℕ} → Settled s area r after → (r .refusal ≡ 2 → ⊥) × (8 < r .refusal → (11 ≤ r .refusal) × (r .refusal ≤ 12))
   refusals-given {r} {after} S = by (S .cases) (outcome-early s (length area))
     where
       by : RefusedEarly s area r after ⊎ (Answered s area r after ⊎ RefusedUnsolvable s area r after) → Early (outcomeOf s (length area))
-          → (r .refusal ≡ 2 → ⊥) × (8 < r .refusal → r .refusal ≡ 11)
+          → (r .refusal ≡ 2 → ⊥) × (8 < r .refusal → (11 ≤ r .refusal) × (r .refusal ≤ 12))
       by (inl e) (inl accepted) = absurd (e .malformed accepted)
       by (inl e) (inr number) =
           let same = ap (λ t. t .refusal) (e .report) in
-          (λ two. number .1 (sym same ∙ two), λ high. same ∙ number .2 (omega arith))
+          (λ two. number .1 (sym same ∙ two), λ high. omega (arith, number .2 (omega arith)))
       by (inr (inl A)) o = let same = ap (λ t. t .refusal) (A .report) in (λ two. omega arith, λ high. absurd (omega arith))
       by (inr (inr u)) o = let same = ap (λ t. t .refusal) (u .report) in (λ two. omega arith, λ high. absurd (omega arith))
 
@@ -87,7 +87,7 @@ module _ (s area : List ℕ) where
   never-2 row S = refusals-given S .0 refl
 
   pub never-later : (row : ℕ) {after : List ℕ} → (Settled s area (reportOf (Refused TooManyRows row)) after → ⊥) × (Settled s area (reportOf (Refused NotReduced row)) after → ⊥)
-  never-later row = (λ S. (let eleven = refusals-given S .1 (omega arith) in omega arith), λ S. (let eleven = refusals-given S .1 (omega arith) in omega arith))
+  never-later row = (λ S. omega (arith, refusals-given S .1 (omega arith) .0), λ S. omega (arith, refusals-given S .1 (omega arith) .0))
 
   -- and the enum that `recover` returns is determined
   pub outcome-unique : {o o' : Outcome} {after after' : List ℕ} → Settled s area (reportOf o) after → Settled s area (reportOf o') after' → o ≡ o'

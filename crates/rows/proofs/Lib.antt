@@ -1,2 +1,1 @@
 pub mod RowPlaces
-pub mod Entries

@@ -2,20 +2,19 @@
 use mathlib.Core.Bool.{cond}
 use mathlib.Core.List.{List}
 use mathlib.Core.Logic.{_⊎_, inl, inr}
-use mathlib.Core.Path.{_≡_, refl, sym, ap, ap₂, subst, _∙_}
-use Prim.Native.Nat.{ℕ, suc, _+_, _-_, _*_, _/_, _%_, _≤_, _<_}
+use mathlib.Core.Path.{_≡_, refl, ap, _∙_}
+use Prim.Native.Nat.{ℕ, suc, _+_, _-_, _*_, _≤_, _<_}
 use native.Mathlib.Nat.{mul-assoc, suc-mul, mul-le-mul-right, add-assoc}
 use native.Mathlib.Omega.{arith}
 use borrow.Author.Tests.{lt-ltb, le-ltb}
 use lib.Dec.{ltb}
-use lib.ListN.{getD, set, take, drop}
+use lib.ListN.{take, drop}
 use lib.Seq.{getD-take, getD-drop}
 use Rattle.format.specs.Numbers.{numberFrom}
 use Rattle.header.specs.Header.{headerLengthOf, boundsOf}
 use Rattle.rows.specs.Rows.{numberAt, valueOrZero}
 use Rattle.rows.specs.Steps.{rowOf, rowAt}
-use Rattle.lists.proofs.Tabulated.{at-tabulate, tabulate-cong}
-use Rattle.lists.proofs.Filling.{Filled, filled-more}
+use Rattle.lists.proofs.Tabulated.{tabulate-cong}
 use Rattle.lists.proofs.Order.{lt-or-ge}
 
 -- a row ends before the job does; m numbers make a row
@@ -56,23 +55,3 @@ module _ (s : List ℕ) (r : ℕ) where
   row-part start n first e =
       let size : start + 2 * (r * (1 + n)) + 2 * (1 + n) - (start + 2 * (r * (1 + n))) ≡ 2 * (1 + n) = omega arith in
       rw (size, first, e) row-here
-
-  -- the row's values, by their places among the values of all rows
-  pub row-values : (i : ℕ) → i < 4 → getD (rowAt s r .values) i 0 ≡ valueOrZero s ((r * 4 + i) / 4) ((r * 4 + i) % 4)
-  unfolding rowAt
-  row-values i l = at-tabulate 4 (valueOrZero s r) i l ∙ ap₂ (valueOrZero s) (omega arith) (omega arith)
-
--- v's first four entries, stored from place k on
-abbrev setFour : List ℕ → ℕ → List ℕ → List ℕ
-setFour l k v = set (set (set (set l k (getD v 0 0)) (k + 1) (getD v 1 0)) (k + 2) (getD v 2 0)) (k + 3) (getD v 3 0)
-
-pub fill-four : {n : ℕ} {f g : ℕ → ℕ} {k : ℕ} {r : List ℕ} → Filled n f g k r → (v : List ℕ) → k + 4 ≤ n
-    → ((i : ℕ) → i < 4 → getD v i 0 ≡ f (k + i)) → Filled n f g (k + 4) (setFour r k v)
-fill-four {f = f} {k = k} h v l same =
-    let one = filled-more h (getD v 0 0) (omega arith) (same 0 (omega arith) ∙ ap f (omega arith)) in
-    let two = filled-more one (getD v 1 0) (omega arith) (same 1 (omega arith)) in
-    let next : k + 1 + 1 ≡ k + 2 = omega arith in
-    let three = filled-more (rw next at two) (getD v 2 0) (omega arith) (same 2 (omega arith)) in
-    let last : k + 2 + 1 ≡ k + 3 = omega arith in
-    let end : k + 3 + 1 ≡ k + 4 = omega arith in
-    rw end at (filled-more (rw last at three) (getD v 3 0) (omega arith) (same 3 (omega arith)))

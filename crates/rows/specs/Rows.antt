@@ -1,11 +1,10 @@
 -- Paper 01, "The job sheet": "L rows follow, each a point and n values, 16 bits a number".
-use Prim.Native.Nat.{ℕ, _+_, _*_, _/_, _%_}
+use Prim.Native.Nat.{ℕ, _+_, _*_}
 use mathlib.Core.Bool.{cond}
 use mathlib.Core.List.{List}
 use lib.Dec.{ltb}
 use Rattle.format.specs.Numbers.{numberFrom}
 use Rattle.header.specs.Header.{headerLengthOf, boundsOf}
-use Rattle.lists.specs.Tabulated.{tabulate}
 
 -- the number in row r and column c, behind the header: column 0 is the point, columns 1 to n are the values
 unfoldable pub numberAt : List ℕ → ℕ → ℕ → ℕ
@@ -22,11 +21,3 @@ jobValue s r i = numberAt s r (1 + i)
 -- the same, with 0 for outputs that do not exist
 abbrev pub valueOrZero : List ℕ → ℕ → ℕ → ℕ
 valueOrZero s r i = cond (ltb i (boundsOf s .outputs)) (jobValue s r i) 0
-
--- the points of all rows, and 0 at places that are no rows
-unfoldable pub jobPoints : List ℕ → List ℕ
-jobPoints s = tabulate 32 (λ r. cond (ltb r (boundsOf s .rows)) (jobPoint s r) 0)
-
--- the values of all rows, that of output i in row r at 4 r + i, and 0 at places that are no rows or outputs
-unfoldable pub jobValues : List ℕ → List ℕ
-jobValues s = tabulate 128 (λ k. cond (ltb (k / 4) (boundsOf s .rows)) (valueOrZero s (k / 4) (k % 4)) 0)

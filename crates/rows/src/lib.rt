@@ -4,7 +4,6 @@ ghost use mathlib.Core.Path.{_≡_};
 ghost use lib.ListN.{length};
 ghost use Rattle.format.specs.Numbers.{numberFrom};
 ghost use Rattle.header.specs.Header.{headerLengthOf, boundsOf};
-ghost use Rattle.rows.specs.Rows.{jobPoints, jobValues};
 ghost use Rattle.rows.specs.Steps.{rowOf, rowAt};
 use cursor::wide;
 use row_word::part;
@@ -13,12 +12,6 @@ use row_word::word_from;
 pub struct Row {
     pub point: u32,
     pub values: [u32; 4],
-}
-
-// All rows: the value of output i in row r stands at 4 r + i.
-pub struct Rows {
-    pub points: [u32; 32],
-    pub values: [u32; 128],
 }
 
 // The number at bytes k and k + 1.
@@ -85,28 +78,4 @@ pub fn row_at(job: &[u8], start: usize, r: usize, rows: usize, outputs: usize) -
     let from = start + 2 * (r * (1 + outputs));
     let to = from + 2 * (1 + outputs);
     read_row(&job[from..to], outputs)
-}
-
-// All rows of a job whose length fits its header.
-pub fn read_rows(job: &[u8], start: usize, rows: usize, outputs: usize) -> Rows
-    requires { ⌜ (start ≤ 7) × (rows ≤ 31) × (outputs ≤ 4) × (length (now job) ≡ start + 2 * rows * (1 + outputs)) ⌝ }
-    requires { ⌜ (start ≡ headerLengthOf (now job)) × (rows ≡ boundsOf (now job) .rows) × (outputs ≡ boundsOf (now job) .outputs) ⌝ }
-    ensures { λ x. ⌜ (x .points ≡ jobPoints (now (job .entry))) × (x .values ≡ jobValues (now (job .entry))) ⌝ }
-{
-    let mut points = [0u32; 32];
-    let mut values = [0u32; 128];
-    for r in 0..rows {
-        let row = row_at(job, start, r, rows, outputs);
-        let v = row.values;
-        let at = r * 4;
-        points[r] = row.point;
-        values[at] = v[0];
-        values[at + 1] = v[1];
-        values[at + 2] = v[2];
-        values[at + 3] = v[3];
-    }
-    Rows {
-        points: points,
-        values: values,
-    }
 }

@@ -34,24 +34,24 @@ unfolding unsolvedSolution
 unsolved-is none e =
     ap (λ (l : List ℕ). record { solvable = false; word = 0; wrong = 0; g = record { c = l }; f = replicate 4 (record { c = l }) }) e
 
-module _ (b : Bounds) (points values : List ℕ) (c : Candidate) where
-  pub judged-unsolvable : c .solvable ≡ false → unsolvedSolution ≡ judgedSolution b points values c
+module _ (b : Bounds) (points weights values : List ℕ) (c : Candidate) where
+  pub judged-unsolvable : c .solvable ≡ false → unsolvedSolution ≡ judgedSolution b points weights values c
   unfolding judgedSolution
-  judged-unsolvable e = subst (λ t. unsolvedSolution ≡ cond t (countedSolution b points values c) unsolvedSolution) (sym e) refl
+  judged-unsolvable e = subst (λ t. unsolvedSolution ≡ cond t (countedSolution b points weights values c) unsolvedSolution) (sym e) refl
 
-  pub judged-solvable : c .solvable ≡ true → countedSolution b points values c ≡ judgedSolution b points values c
+  pub judged-solvable : c .solvable ≡ true → countedSolution b points weights values c ≡ judgedSolution b points weights values c
   unfolding judgedSolution
   judged-solvable e =
-      subst (λ t. countedSolution b points values c ≡ cond t (countedSolution b points values c) unsolvedSolution) (sym e) refl
+      subst (λ t. countedSolution b points weights values c ≡ cond t (countedSolution b points weights values c) unsolvedSolution) (sym e) refl
 
-  pub counted-many : b .errors < wrongCountOf (wordBy b points values c) → unsolvedSolution ≡ countedSolution b points values c
+  pub counted-many : b .errors < wrongCountOf (wordBy b points weights values c) → unsolvedSolution ≡ countedSolution b points weights values c
   unfolding countedSolution
   counted-many many = simp (lt-ltb _ _ many)
 
-  pub counted-few : {wrong word : ℕ} → word ≡ wordBy b points values c → wrong ≡ wrongCountOf word → wrong ≤ b .errors
-      → _≡_ {A = Solution} (record { solvable = true; word = word; wrong = wrong; g = c .g; f = c .f }) (countedSolution b points values c)
+  pub counted-few : {wrong word : ℕ} → word ≡ wordBy b points weights values c → wrong ≡ wrongCountOf word → wrong ≤ b .errors
+      → _≡_ {A = Solution} (record { solvable = true; word = word; wrong = wrong; g = c .g; f = c .f }) (countedSolution b points weights values c)
   unfolding countedSolution
   counted-few {wrong} {word} word-is count-is few =
-      let count : wrong ≡ wrongCountOf (wordBy b points values c) = count-is ∙ ap wrongCountOf word-is in
-      let few' : wrongCountOf (wordBy b points values c) ≤ b .errors = omega arith in
+      let count : wrong ≡ wrongCountOf (wordBy b points weights values c) = count-is ∙ ap wrongCountOf word-is in
+      let few' : wrongCountOf (wordBy b points weights values c) ≤ b .errors = omega arith in
       simp (le-ltb _ _ few') (ap₂ (λ (w n : ℕ). record { solvable = true; word = w; wrong = n; g = c .g; f = c .f }) word-is count)

@@ -18,23 +18,24 @@ unfoldable pub unsolvedSolution : Solution
 unsolvedSolution = record { solvable = false; word = 0; wrong = 0; g = zeroPoly; f = replicate 4 zeroPoly }
 
 -- the word of the rows that are wrong for a candidate
-unfoldable pub wordBy : Bounds → List ℕ → List ℕ → Candidate → ℕ
-wordBy b points values c = wordOf (b .rows) (wrongRowAt b points values (coefficientsAt (c .f)) (c .g .c))
+unfoldable pub wordBy : Bounds → (points weights values : List ℕ) → Candidate → ℕ
+wordBy b points weights values c = wordOf (b .rows) (wrongRowAt b points weights values (coefficientsAt (c .f)) (c .g .c))
 
 -- the candidate, if at most E rows are wrong for it
-unfoldable pub countedSolution : Bounds → List ℕ → List ℕ → Candidate → Solution
-countedSolution b points values c =
-    cond (ltb (b .errors) (wrongCountOf (wordBy b points values c))) unsolvedSolution
+unfoldable pub countedSolution : Bounds → (points weights values : List ℕ) → Candidate → Solution
+countedSolution b points weights values c =
+    cond (ltb (b .errors) (wrongCountOf (wordBy b points weights values c))) unsolvedSolution
     (record {
       solvable = true;
-      word = wordBy b points values c;
-      wrong = wrongCountOf (wordBy b points values c);
+      word = wordBy b points weights values c;
+      wrong = wrongCountOf (wordBy b points weights values c);
       g = c .g;
       f = c .f;
     })
 
-unfoldable pub judgedSolution : Bounds → List ℕ → List ℕ → Candidate → Solution
-judgedSolution b points values c = cond (c .solvable) (countedSolution b points values c) unsolvedSolution
+unfoldable pub judgedSolution : Bounds → (points weights values : List ℕ) → Candidate → Solution
+judgedSolution b points weights values c = cond (c .solvable) (countedSolution b points weights values c) unsolvedSolution
 
-abbrev pub solutionFor : Bounds → List ℕ → List ℕ → Solution
-solutionFor b points values = judgedSolution b points values (candidateAfter b points values (b .outputs))
+-- of a table of which S rows speak
+abbrev pub solutionFor : Bounds → (S : ℕ) (points weights values : List ℕ) → Solution
+solutionFor b S points weights values = judgedSolution b points weights values (candidateAfter b S points weights values (b .outputs))

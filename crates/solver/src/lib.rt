@@ -28,18 +28,24 @@ fn unsolved() -> Solution
     }
 }
 
-// The candidate of all outputs, if at most E rows are wrong for it.
-pub fn solve(b: Bounds, points: [u32; 32], values: [u32; 128]) -> Solution
-    requires { ⌜ Sized b × Table b points ⌝ }
-    ensures { λ r. ⌜ r ≡ solutionFor b points values ⌝ }
+// The candidate of all outputs, if at most E rows are wrong for it. So many rows speak.
+pub fn solve(
+    b: Bounds,
+    speaking: usize,
+    points: [u32; 32],
+    weights: [u16; 32],
+    values: [u32; 128],
+) -> Solution
+    requires { ⌜ Sized b × Table b speaking points weights ⌝ }
+    ensures { λ r. ⌜ r ≡ solutionFor b speaking points weights values ⌝ }
 {
-    let c = candidate::after_outputs(b, points, values);
+    let c = candidate::after_outputs(b, speaking, points, weights, values);
     if !c.solvable {
         return unsolved();
     }
     let g = c.g;
     let f = c.f;
-    let word = judge::wrong_rows(b, points, values, g, f);
+    let word = judge::wrong_rows(b, points, weights, values, g, f);
     let wrong = word::wrong_count(word);
     if b.errors < wrong as usize {
         return unsolved();

@@ -13,8 +13,8 @@ use Rattle.algebra.proofs.Bounds.{Below}
 use Rattle.algebra.proofs.Degree.{HasDegree}
 use Rattle.algebra.proofs.LowestTerms.{LowestTerms, monic-degree}
 use Rattle.method.proofs.Solution.{Solves}
-use Rattle.method.proofs.Problem.{Problem, None}
-use Rattle.method.proofs.CrossProduct.{conditions}
+use Rattle.method.proofs.Problem.{Problem, None, phiDegree}
+use Rattle.method.proofs.CrossProduct.{conditions, psiDegree}
 use Rattle.method.proofs.Outputs.{
   Candidate as MethodCandidate,
   Extends,
@@ -42,26 +42,26 @@ use Rattle.extension.specs.Extensions.{Fitting, numeratorAt, raisedAt, raisedBe
 use Rattle.vector.specs.Vector.{unsolvableCandidate}
 use Rattle.extension.proofs.Fittings.{bounded-raised, set-same, set-other, fitting-set}
 use Rattle.extension.proofs.ExtensionLaws.{raised-too-long, raised-fits}
-use Rattle.candidate.specs.Candidates.{startCandidate, slackOf}
+use Rattle.candidate.specs.Candidates.{startCandidate}
 use Rattle.candidate.proofs.CandidateLaws.{fitting-start}
 
-module _ (b : Bounds) (points values : List ℕ) (U : Usable b points) where
+module _ (b : Bounds) (speaking : ℕ) (points weights values : List ℕ) (U : Usable b speaking points weights values) where
   abbrev p : ℕ
   p = primeOf b
 
   abbrev T : Problem (R b)
-  T = problem b points values
+  T = problem b points weights values
 
   -- a candidate of the code that is one of the method
   pub record Good (i : ℕ) (c : Candidate) : Type 0 where
     pub degree : ℕ
-    pub candidate : MethodCandidate (F b) 32 (problem b points values) i (λ j. poly b (numeratorAt c j)) (poly b (c .g .c)) degree
+    pub candidate : MethodCandidate (F b) 32 (problem b points weights values) i (λ j. poly b (numeratorAt c j)) (poly b (c .g .c)) degree
     pub g-length : lengthOf (c .g .c) ≡ suc degree
     pub fitting : Fitting b c
 
   -- after i outputs: a candidate, or there is no answer
   abbrev pub Verdict : ℕ → Candidate → Type 0
-  Verdict i c = ((c .solvable ≡ true) × Good i c) ⊎ ((c .solvable ≡ false) × None (F b) 32 (problem b points values))
+  Verdict i c = ((c .solvable ≡ true) × Good i c) ⊎ ((c .solvable ≡ false) × None (F b) 32 (problem b points weights values))
 
   pub no-answer : (i : ℕ) → None (F b) 32 T → Verdict i unsolvableCandidate
   unfolding unsolvableCandidate
@@ -85,7 +85,8 @@ module _ (b : Bounds) (points values : List ℕ) (U : Usable b points) where
 
   -- One output more: c holds the first i, and a / h is output i's fraction, in lowest terms, in units of 1 / g.
   module _ {i : ℕ} (li : i < b .outputs) {c : Candidate} (sc : c .solvable ≡ true) (G : Good i c) {phi psi : Series (R b)}
-      (S : Solves (R b) (b .rows - 1 - slackOf b) (slackOf b) 32 (conditions (F b) 32 (poly b (c .g .c)) i (evaluation b points values)) (b .rows) phi psi)
+      (S : Solves (R b) (phiDegree (F b) (problem b points weights values)) (psiDegree (F b) 32 (problem b points weights values) (poly b (c .g .c)) i) 32
+      (conditions (F b) 32 (poly b (c .g .c)) i (evaluation b points weights values)) (b .rows) phi psi)
       (W : LowestTerms (F b) phi psi) {a h : List ℕ} (ea : W .numerator ≡ poly b a) (eh : W .denominator ≡ poly b h)
       (ba : Bounded p 32 a) (bh : Bounded p 32 h) (lh : lengthOf h ≡ suc (W .degree)) where
     i-small : i < 4
@@ -112,7 +113,7 @@ module _ (b : Bounds) (points values : List ℕ) (U : Usable b points) where
       -- too long: there is no answer
       too-long : 0 < l → numeratorBoundOf b j + 2 < l + lengthOf h → None (F b) 32 T
       too-long nonzero long =
-          none-if-old-numerator-too-long (F b) 32 T (ample b points values U) (capacity b points values U) li (G .candidate) S W j (l - 1) lj
+          none-if-old-numerator-too-long (F b) 32 T (ample b speaking points weights values U) (capacity b speaking points weights values U) li (G .candidate) S W j (l - 1) lj
           (subst (λ t. HasDegree (F b) (poly b t) (l - 1)) (H .rest j (omega arith))
           (length-means p (P b) (H .fitting .numerators j) (l - 1) (let e : l ≡ suc (l - 1) = omega arith in e)))
           (omega arith)
@@ -226,7 +227,7 @@ module _ (b : Bounds) (points values : List ℕ) (U : Usable b points) where
       candidate : MethodCandidate (F b) 32 T (suc i) (λ j. poly b (numeratorAt new j)) (poly b (new .g .c)) d
       unfolding d
       candidate =
-          next-candidate (F b) 32 T (ample b points values U) (capacity b points values U) li (G .candidate) S W extends
+          next-candidate (F b) 32 T (ample b speaking points weights values U) (capacity b speaking points weights values U) li (G .candidate) S W extends
           (let e = G .g-length in omega arith)
           (λ j l k m. series-below p (P b) (fitting .numerators j) k (omega arith))
 
@@ -239,10 +240,10 @@ module _ (b : Bounds) (points values : List ℕ) (U : Usable b points) where
       }
 
     g-too-long : b .dg + 2 < lengthOf (c .g .c) + lengthOf h → None (F b) 32 T
-    g-too-long long = none-if-denominator-too-long (F b) 32 T (ample b points values U) (capacity b points values U) li (G .candidate) S W (let e = G .g-length in omega arith)
+    g-too-long long = none-if-denominator-too-long (F b) 32 T (ample b speaking points weights values U) (capacity b speaking points weights values U) li (G .candidate) S W (let e = G .g-length in omega arith)
 
     a-too-long : numeratorBoundOf b i + 1 < lengthOf a → None (F b) 32 T
-    a-too-long long = none-if-new-numerator-too-long (F b) 32 T (ample b points values U) (capacity b points values U) li (G .candidate) S W
+    a-too-long long = none-if-new-numerator-too-long (F b) 32 T (ample b speaking points weights values U) (capacity b speaking points weights values U) li (G .candidate) S W
         (λ below. let n = length-at-most a (suc (numeratorBoundOf b i)) (below-bounded p (P b) ba (suc (numeratorBoundOf b i)) (subst (λ f. Below (R b) f (suc (numeratorBoundOf b i))) ea below) .within) in omega arith)
 
     output-verdict : (r : Candidate) → lengthOf (c .g .c) + lengthOf h ≤ b .dg + 2 → lengthOf a ≤ numeratorBoundOf b i + 1

@@ -7,8 +7,9 @@ use native.Mathlib.Nat.{mod-lt}
 use native.Mathlib.Numerals.{add-one}
 use native.Mathlib.Decide.{decLe, ℕ-discrete}
 use native.Mathlib.Omega.{arith}
+use borrow.Author.Tests.{eq-eqb, ne-eqb}
 use lib.ListN.{length}
-use Rattle.algebra.proofs.Ring.{Ring, neg-mul, one-mul}
+use Rattle.algebra.proofs.Ring.{Ring, neg-mul}
 use Rattle.algebra.proofs.Field.{Field}
 use Rattle.algebra.proofs.Series.{Series, constS, nullS}
 use Rattle.method.proofs.PairLaws.{combine}
@@ -17,6 +18,8 @@ use Rattle.method.proofs.Interpolation.{
   Pair as SeriesPair,
   discrepancy,
   discrepancy-at,
+  firstPair,
+  secondPair,
   advanced,
   combined,
   Invariant,
@@ -26,6 +29,13 @@ use Rattle.method.proofs.Interpolation.{
   advance-second,
   combine-second,
   combine-first,
+  Idle,
+  dec-idle,
+  idle-discrepancy,
+  activeBelow,
+  activeBelow-zero,
+  activeBelow-idle,
+  activeBelow-active,
 }
 use Rattle.method.proofs.Solution.{Solves, first-solves, second-solves}
 use Rattle.field.proofs.Primality.{IsPrime}
@@ -45,10 +55,13 @@ use Rattle.poly_meaning.proofs.Series.{
   combination-means,
   value-means-bounded,
 }
+use Rattle.word.specs.Word.{countBelow, flagOf}
 use Rattle.pairs.specs.declared.Pair.{Pair}
 use Rattle.pairs.specs.Pairs.{
   Pairs,
   PairBounded,
+  activeAt,
+  activeCount,
   discrepancyOf,
   advancedOf,
   combinedOf,
@@ -85,22 +98,22 @@ module _ (p : ℕ) (P : IsPrime p) where
       → _≡_ {A = SeriesPair R} (record { a = a; b = b; e = e }) (record { a = a'; b = b'; e = e' })
   same-pair ea eb ee = cc
 
-  -- the condition a(x) = z b(x)
-  abbrev pub condition : ℕ → ℕ → Condition (residueRing p P)
-  condition x z = record { x = residue p P x; c = residue p P 1; z = residue p P z }
+  -- the condition c a(x) = z b(x)
+  abbrev pub condition : (c x z : ℕ) → Condition (residueRing p P)
+  condition c x z = record { x = residue p P x; c = residue p P c; z = residue p P z }
 
   -- what the discrepancy means, for polynomials within 32 coefficients
-  discrepancy-means : {n : ℕ} (x z : ℕ) (s : Pair) → z < p → PairBounded p n s → n ≤ 32
-      → residue p P (discrepancyOf p x z s) ≡ discrepancy R 32 (condition x z) (meaning s)
+  discrepancy-means : {n : ℕ} (c x z : ℕ) (s : Pair) → z < p → PairBounded p n s → n ≤ 32
+      → residue p P (discrepancyOf p c x z s) ≡ discrepancy R 32 (condition c x z) (meaning s)
   unfolding discrepancyOf
-  discrepancy-means x z s l b n =
+  discrepancy-means c x z s l b n =
       let va = valueOf p x (s .a .c) in
       let vb = valueOf p x (s .b .c) in
-      residue-mod p P _ ∙ sym (residue-add p P va ((p - z) * vb))
+      residue-mod p P _ ∙ sym (residue-add p P (c * va) ((p - z) * vb))
       ∙ ap₂ (R .add)
-      (value-means-bounded p P 32 x (b .left) n ∙ sym (one-mul R _))
+      (sym (residue-mul p P c va) ∙ ap (R .mul (residue p P c)) (value-means-bounded p P 32 x (b .left) n))
       (sym (residue-mul p P (p - z) vb) ∙ ap₂ (R .mul) (sym (residue-neg p P z l)) (value-means-bounded p P 32 x (b .right) n) ∙ neg-mul R _ _)
-      ∙ sym (discrepancy-at R 32 (condition x z) (meaning s))
+      ∙ sym (discrepancy-at R 32 (condition c x z) (meaning s))
 
   -- a pair of the code: two lists of 32 numbers below p, which are 0 from n on
   pub record Lists (n : ℕ) (t : Pair) : Type 0 where
@@ -149,32 +162,67 @@ module _ (p : ℕ) (P : IsPrime p) where
           means = same-pair (combination-means p P d c (bs .left) (bt .left) (omega arith) lc) (combination-means p P d c (bs .right) (bt .right) (omega arith) lc) refl;
         }
 
-  module _ (A B : ℕ) (points z : List ℕ) (points-below : (k : ℕ) → at points k < p) (z-below : (k : ℕ) → at z k < p) where
+  -- the conditions of the rows
+  module _ (points weights z : List ℕ) where
     abbrev pub conditionAt : ℕ → Condition (residueRing p P)
-    conditionAt l = condition (at points l) (at z l)
+    conditionAt l = condition (at weights l) (at points l) (at z l)
+
+    -- a row asks something exactly if its condition is active
+    module _ (weights-below : (k : ℕ) → at weights k < 2) (z-below : (k : ℕ) → at z k < p) where
+      pub active-means : (k : ℕ) → activeBelow (residueField p P) conditionAt k ≡ activeCount weights z k
+      unfolding countBelow
+      active-means zero = activeBelow-zero F conditionAt
+      active-means (suc k) = by (ℕ-discrete (at weights k) 0) (ℕ-discrete (at z k) 0) (active-means k)
+        where
+          low : at weights k < p
+          low = let w = weights-below k in let two = P .two in omega arith
+
+          by : Dec (at weights k ≡ 0) → Dec (at z k ≡ 0) → activeBelow F conditionAt k ≡ activeCount weights z k
+              → activeBelow F conditionAt (suc k) ≡ activeCount weights z k + flagOf (activeAt weights z k)
+          by (yes w) (yes e) same =
+              let idle = activeBelow-idle F conditionAt k (ap (residue p P) w, ap (residue p P) e) in
+              let flag : flagOf (activeAt weights z k) ≡ 0 = rw (eq-eqb _ _ w, eq-eqb _ _ e) refl in
+              omega arith
+          by (yes w) (no ne) same =
+              let active = activeBelow-active F conditionAt k (λ idle. ne (residue-zero p P _ (z-below k) (idle .1))) in
+              let flag : flagOf (activeAt weights z k) ≡ 1 = rw (eq-eqb _ _ w, ne-eqb _ _ ne) refl in
+              omega arith
+          by (no nw) e same =
+              let active = activeBelow-active F conditionAt k (λ idle. nw (residue-zero p P _ low (idle .0))) in
+              let flag : flagOf (activeAt weights z k) ≡ 1 = rw (ne-eqb _ _ nw) refl in
+              omega arith
+
+  module _ (A B : ℕ) (points weights z : List ℕ) (points-below : (k : ℕ) → at points k < p) (z-below : (k : ℕ) → at z k < p) where
+    abbrev here : ℕ → Condition R
+    here = conditionAt points weights z
+
+    -- how many of the first k conditions are active
+    abbrev active : ℕ → ℕ
+    active k = activeBelow F here k
 
     -- after k rows
     pub record Means (k : ℕ) (s : Pairs) : Type 0 where
       pub one : Lists (k + 1) (s .first)
       pub two : Lists (k + 1) (s .second)
-      pub invariant : Invariant (residueRing p P) A B 32 conditionAt k (meaning (s .first)) (meaning (s .second))
+      pub invariant : Invariant (residueRing p P) A B 32 (conditionAt points weights z) k (activeBelow (residueField p P) (conditionAt points weights z) k)
+          (meaning (s .first)) (meaning (s .second))
 
-    reads-means : (k : ℕ) {s t : Pair} {m n : SeriesPair R} → Reads (k + 1) s m → Reads (k + 1) t n → Invariant R A B 32 conditionAt k m n
+    reads-means : (k : ℕ) {s t : Pair} {m n : SeriesPair R} → Reads (k + 1) s m → Reads (k + 1) t n → Invariant R A B 32 here k (active k) m n
         → Means k (record { first = s; second = t })
     reads-means k {s} {t} {m} S T I = record {
       one = S .lists;
       two = T .lists;
-      invariant = subst (λ r. Invariant R A B 32 conditionAt k r (meaning t)) (sym (S .means))
-          (subst (Invariant R A B 32 conditionAt k m) (sym (T .means)) I);
+      invariant = subst (λ r. Invariant R A B 32 here k (active k) r (meaning t)) (sym (S .means))
+          (subst (Invariant R A B 32 here k (active k) m) (sym (T .means)) I);
     }
 
     start-means : Means 0 (startOf A B)
     unfolding startOf
     start-means =
-        let b = reached-start p points z A B (startOf A B) (let two = P .two in omega arith) refl .bounded in
+        let b = reached-start p points weights z A B (startOf A B) (let two = P .two in omega arith) refl .bounded in
         reads-means 0 (record { lists = record { bounded = b .one; left-size = refl; right-size = refl }; means = same-pair one none refl })
         (record { lists = record { bounded = b .two; left-size = refl; right-size = refl }; means = same-pair none one refl })
-        (start-invariant F A B 32 conditionAt)
+        (subst (λ a. Invariant R A B 32 here 0 a (firstPair R B) (secondPair R A)) (sym (activeBelow-zero F here)) (start-invariant F A B 32 here))
       where
         one : series p P (onePoly .c) ≡ constS R (residue p P 1)
         one = constant-means p P 1 31
@@ -187,26 +235,45 @@ module _ (p : ℕ) (P : IsPrime p) where
       abbrev x : ℕ
       x = at points k
 
+      abbrev c : ℕ
+      c = at weights k
+
       abbrev d0 : ℕ
-      d0 = discrepancyOf p x (at z k) (s .first)
+      d0 = discrepancyOf p c x (at z k) (s .first)
 
       abbrev d1 : ℕ
-      d1 = discrepancyOf p x (at z k) (s .second)
+      d1 = discrepancyOf p c x (at z k) (s .second)
 
-      means : (t : Pair) → PairBounded p (k + 1) t → residue p P (discrepancyOf p x (at z k) t) ≡ discrepancy R 32 (conditionAt k) (meaning t)
-      means t b = discrepancy-means x (at z k) t (z-below k) b (omega arith)
+      means : (t : Pair) → PairBounded p (k + 1) t → residue p P (discrepancyOf p c x (at z k) t) ≡ discrepancy R 32 (here k) (meaning t)
+      means t b = discrepancy-means c x (at z k) t (z-below k) b (omega arith)
 
-      small : (t : Pair) → discrepancyOf p x (at z k) t < p
+      small : (t : Pair) → discrepancyOf p c x (at z k) t < p
       unfolding discrepancyOf
       small t = mod-lt _ (let two = P .two in omega arith)
 
-      null : (t : Pair) → PairBounded p (k + 1) t → discrepancyOf p x (at z k) t ≡ 0 → discrepancy R 32 (conditionAt k) (meaning t) ≡ residue p P 0
+      null : (t : Pair) → PairBounded p (k + 1) t → discrepancyOf p c x (at z k) t ≡ 0 → discrepancy R 32 (here k) (meaning t) ≡ residue p P 0
       null t b e = sym (means t b) ∙ ap (residue p P) e
 
-      nonnull : (t : Pair) → (discrepancyOf p x (at z k) t ≡ 0 → ⊥) → residue p P (discrepancyOf p x (at z k) t) ≢ residue p P 0
+      nonnull : (t : Pair) → (discrepancyOf p c x (at z k) t ≡ 0 → ⊥) → residue p P (discrepancyOf p c x (at z k) t) ≢ residue p P 0
       nonnull t n e = n (residue-zero p P _ (small t) e)
 
-      step-means : Means (suc k) (pairsStep p x (at z k) s)
+      -- a row where a pair has a discrepancy is active, and no row takes from the count
+      active-if : (t : Pair) → PairBounded p (k + 1) t → (discrepancyOf p c x (at z k) t ≡ 0 → ⊥) → suc (active k) ≡ active (suc k)
+      active-if t b n =
+          sym (activeBelow-active F here k (λ idle. n (residue-zero p P _ (small t) (means t b ∙ idle-discrepancy R 32 (here k) (meaning t) idle))))
+
+      active-grows : active k ≤ active (suc k)
+      active-grows = by (dec-idle F (here k))
+        where
+          by : Dec (Idle R (here k)) → active k ≤ active (suc k)
+          by (yes idle) = let e = activeBelow-idle F here k idle in omega arith
+          by (no asks) = let e = activeBelow-active F here k asks in omega arith
+
+      -- one active row more
+      counted : {m n : SeriesPair R} → suc (active k) ≡ active (suc k) → Invariant R A B 32 here (suc k) (suc (active k)) m n → Invariant R A B 32 here (suc k) (active (suc k)) m n
+      counted {m} {n} e I = subst (λ a. Invariant R A B 32 here (suc k) a m n) e I
+
+      step-means : Means (suc k) (pairsStep p c x (at z k) s)
       step-means = by (ℕ-discrete d0 0) (ℕ-discrete d1 0) (decLe (s .first .e) (s .second .e))
         where
           b0 : PairBounded p (k + 1) (s .first)
@@ -218,45 +285,45 @@ module _ (p : ℕ) (P : IsPrime p) where
           risen : {t : Pair} → PairBounded p (k + 1) t → Reads (suc k + 1) (advancedOf p x t) (advanced R (residue p P x) (meaning t))
           risen b = rises k fits x (points-below k) b
 
-          by : Dec (d0 ≡ 0) → Dec (d1 ≡ 0) → Dec (s .first .e ≤ s .second .e) → Means (suc k) (pairsStep p x (at z k) s)
-          by (yes z0) (yes z1) c =
+          by : Dec (d0 ≡ 0) → Dec (d1 ≡ 0) → Dec (s .first .e ≤ s .second .e) → Means (suc k) (pairsStep p c x (at z k) s)
+          by (yes z0) (yes z1) le =
               subst (Means (suc k)) (step-both p x d0 d1 s z0 z1)
-              (reads-means (suc k) (stays k fits (M .one)) (stays k fits (M .two)) (keep-both F A B 32 (M .invariant) (null (s .first) b0 z0) (null (s .second) b1 z1)))
-          by (yes z0) (no n1) c =
+              (reads-means (suc k) (stays k fits (M .one)) (stays k fits (M .two)) (keep-both F A B 32 (M .invariant) (null (s .first) b0 z0) (null (s .second) b1 z1) active-grows))
+          by (yes z0) (no n1) le =
               subst (Means (suc k)) (step-second p x d0 d1 s _ z0 n1 refl)
-              (reads-means (suc k) (stays k fits (M .one)) (risen b1) (advance-second F A B 32 (M .invariant) (omega arith) (null (s .first) b0 z0)))
-          by (no n0) (yes z1) c =
+              (reads-means (suc k) (stays k fits (M .one)) (risen b1) (counted (active-if (s .second) b1 n1) (advance-second F A B 32 (M .invariant) (omega arith) (null (s .first) b0 z0))))
+          by (no n0) (yes z1) le =
               subst (Means (suc k)) (step-first p x d0 d1 s _ n0 z1 refl)
-              (reads-means (suc k) (risen b0) (stays k fits (M .two)) (advance-first F A B 32 (M .invariant) (omega arith) (null (s .second) b1 z1)))
+              (reads-means (suc k) (risen b0) (stays k fits (M .two)) (counted (active-if (s .first) b0 n0) (advance-first F A B 32 (M .invariant) (omega arith) (null (s .second) b1 z1))))
           by (no n0) (no n1) (yes le) =
               subst (Means (suc k)) (step-clear-second p x d0 d1 s _ _ n0 n1 le refl refl)
               (reads-means (suc k) (risen b0) (combines k fits d0 d1 (small (s .second)) b1 b0)
-              (combine-second F A B 32 (M .invariant) (omega arith) _ _ (means (s .first) b0) (means (s .second) b1) (nonnull (s .first) n0) le))
+              (counted (active-if (s .first) b0 n0) (combine-second F A B 32 (M .invariant) (omega arith) _ _ (means (s .first) b0) (means (s .second) b1) (nonnull (s .first) n0) le)))
           by (no n0) (no n1) (no gt) =
               subst (Means (suc k)) (step-clear-first p x d0 d1 s _ _ n0 n1 (omega arith) refl refl)
               (reads-means (suc k) (combines k fits d1 d0 (small (s .first)) b0 b1) (risen b1)
-              (combine-first F A B 32 (M .invariant) (omega arith) _ _ (means (s .first) b0) (means (s .second) b1) (nonnull (s .second) n1) (omega arith)))
+              (counted (active-if (s .second) b1 n1) (combine-first F A B 32 (M .invariant) (omega arith) _ _ (means (s .first) b0) (means (s .second) b1) (nonnull (s .second) n1) (omega arith))))
 
     -- after each row
-    pub pairs-mean : (k : ℕ) → k ≤ 31 → Means k (pairsAfter p points z A B k)
+    pub pairs-mean : (k : ℕ) → k ≤ 31 → Means k (pairsAfter p points weights z A B k)
     unfolding pairsAfter
     pairs-mean zero l = start-means
-    pairs-mean (suc k) l = step-means k (omega arith) (pairsAfter p points z A B k) (pairs-mean k (omega arith))
+    pairs-mean (suc k) l = step-means k (omega arith) (pairsAfter p points weights z A B k) (pairs-mean k (omega arith))
 
-    -- after as many rows as there are coefficients less one, the smaller pair solves the conditions
-    pub solution-means : (k : ℕ) → k ≤ 31 → k ≡ A + B + 1
-        → Lists (k + 1) (solutionOf p points z A B k)
-        × Solves (residueRing p P) A B 32 conditionAt k (series p P (solutionOf p points z A B k .a .c)) (series p P (solutionOf p points z A B k .b .c))
+    -- after as many active rows as there are coefficients less one, the smaller pair solves the conditions
+    pub solution-means : (k : ℕ) → k ≤ 31 → activeBelow (residueField p P) (conditionAt points weights z) k ≡ A + B + 1
+        → Lists (k + 1) (solutionOf p points weights z A B k)
+        × Solves (residueRing p P) A B 32 (conditionAt points weights z) k (series p P (solutionOf p points weights z A B k .a .c)) (series p P (solutionOf p points weights z A B k .b .c))
     solution-means k l e = by (decLe (s .first .e) (s .second .e))
       where
         s : Pairs
-        s = pairsAfter p points z A B k
+        s = pairsAfter p points weights z A B k
 
         M : Means k s
         M = pairs-mean k l
 
         Good : Pair → Type 0
-        Good t = Lists (k + 1) t × Solves R A B 32 conditionAt k (series p P (t .a .c)) (series p P (t .b .c))
+        Good t = Lists (k + 1) t × Solves R A B 32 here k (series p P (t .a .c)) (series p P (t .b .c))
 
         by : Dec (s .first .e ≤ s .second .e) → Good (smallerOf s)
         by (yes le) = subst Good (smaller-first {s = s} refl le) (M .one, first-solves R (M .invariant) e le)

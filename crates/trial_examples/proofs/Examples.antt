@@ -32,17 +32,18 @@ use Rattle.trial.proofs.Facts.{TrialFacts, trial-facts}
 use Rattle.trial.proofs.Settling.{settle-written}
 use Rattle.trial.proofs.Laws.{trial-unique}
 use Rattle.trial_recovery.specs.TrialRecovery.{poleOrSpoiled, polesAndSpoiled}
-use Rattle.trial_examples.specs.Examples.{header, coefficients, job, PageWritten, PageRecovered, EachRefusal}
+use Rattle.trial_examples.specs.Examples.{header, coefficients, job, FlaggedJob, PageWritten, PageRecovered, EachRefusal}
 
 each-refusal : EachRefusal
 unfolding trialOutcome testedBefore testedLengths testedNumbers tabulate largestBound numeratorCount fieldOf outputsOf dfOf spareBitOf numeratorBoundsOf flagsOf boundsOf firstBelow
 each-refusal = record {
   short-header = refl;
   spare-bit = refl;
-  flag = refl;
+  last-flag = refl;
   absent = refl;
   df-below = refl;
   longer = refl;
+  first-flag = refl;
   long-header = refl;
   coefficient-bytes = refl;
   few-rows = refl;
@@ -71,6 +72,10 @@ page-reduced =
 page-job : trialJob header coefficients 14 2 ≡ job
 unfolding trialJob trialNumbers trialNumber valueBefore rightValue valueOf polynomialFrom numeratorCount addedBy chosenRow untakenFrom drawn coefficientBytes tabulate firstBelow fieldOf outputsOf dfOf spareBitOf numeratorBoundsOf flagsOf boundsOf
 page-job = refl
+
+flagged-job : FlaggedJob
+unfolding trialJob trialNumbers trialNumber valueBefore rightValue valueOf polynomialFrom numeratorCount addedBy chosenRow untakenFrom drawn coefficientBytes tabulate firstBelow fieldOf outputsOf dfOf spareBitOf numeratorBoundsOf flagsOf boundsOf
+flagged-job = refl
 
 page-length : jobLengthOf (headerOf header) ≡ 45
 unfolding fieldOf outputsOf dfOf spareBitOf numeratorBoundsOf flagsOf boundsOf

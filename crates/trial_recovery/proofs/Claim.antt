@@ -36,7 +36,7 @@ use Rattle.coefficients.proofs.Written.{Bytes, coefficients-written}
 use Rattle.coefficients.proofs.Ranges.{denominator-bounded, numerator-bounded}
 use Rattle.trial.proofs.Laws.{Wrote, RefusedTrial, trial-cases, wrote-if-not-refused, refused-otherwise}
 use Rattle.trial_recovery.specs.TrialRecovery.{poleOrSpoiled, polesAndSpoiled, GivenBack, TrialRecovered}
-use Rattle.trial_recovery.proofs.Reading.{job-length, header-same, bounds-same, number-below, number-read, point-read}
+use Rattle.trial_recovery.proofs.Reading.{job-length, header-same, bounds-same, number-below, number-read, point-read, all-speak}
 use Rattle.trial_recovery.proofs.Judging.{wrong-rows}
 
 module _ (h c : List ℕ) (start w : ℕ) (F : TrialFacts h c w) (R : TrialReduced h c) where
@@ -66,9 +66,10 @@ module _ (h c : List ℕ) (start w : ℕ) (F : TrialFacts h c w) (R : TrialReduc
     byte-count = job-length h c start w F ∙ sym (ap jobLengthOf header);
     enough-rows = subst (λ (x : Header). rowsNeededOf x ≤ x .bounds .rows) (sym header) (F .enough-rows);
     points-in-range = λ r l. rw (bounds, number-read h c start w F r 0 (row-there l) (omega arith)) (number-below h c start w F r 0 (row-there l));
-    values-in-range = λ r i l m.
+    values-in-range = λ r i l m unmarked.
         let m' = rw bounds at m in
         rw (bounds, number-read h c start w F r (1 + i) (row-there l) (omega arith)) (number-below h c start w F r (1 + i) (row-there l));
+    enough-speaking = rw (all-speak h c start w F) (subst (λ (x : Header). rowsNeededOf x ≤ boundsOf h .rows) (sym header) (F .enough-rows));
     distinct = λ q r l m e. sym (point-read h c start w F q (row-there l)) ∙ e ∙ point-read h c start w F r (row-there m);
     enough-area = rw bounds enough;
   }

@@ -16,7 +16,7 @@ use Rattle.header.proofs.Fields.{narrow}
 use Rattle.poly.specs.Operations.{valueOf}
 use Rattle.problem.specs.Rows.{wrongRow}
 use Rattle.problem.specs.Answers.{wrongAt}
-use Rattle.problem.proofs.Rows.{wrong-one, all-right, wrong-same}
+use Rattle.problem.proofs.Rows.{wrong-one, all-right, wrong-same, unmarked-verdict}
 use Rattle.problem.proofs.Roots.{root-wrong}
 use Rattle.coefficients.specs.Coefficients.{denominatorOf, numeratorOf}
 use Rattle.spoiling.specs.Spoiling.{addedBy, spoiledBy}
@@ -26,7 +26,7 @@ use Rattle.trial_rows.proofs.Values.{regular-right, regular-only, value-before-
 use Rattle.trial.specs.Trial.{trialJob, TrialReduced}
 use Rattle.trial.proofs.Facts.{TrialFacts}
 use Rattle.trial_recovery.specs.TrialRecovery.{poleOrSpoiled}
-use Rattle.trial_recovery.proofs.Reading.{bounds-same, number-read, numberOf}
+use Rattle.trial_recovery.proofs.Reading.{bounds-same, number-read, row-unmarked, numberOf}
 
 -- a residue that is moved by 1 to p - 1 is another one
 moved : (p v a : ℕ) → v < p → 0 < a → a < p → (v + a) % p ≡ v → ⊥
@@ -59,11 +59,12 @@ module _ (h c : List ℕ) (start w : ℕ) (facts : TrialFacts h c w) (R : TrialR
   abbrev writtenWrong : ℕ → Bool
   writtenWrong r = wrongRow p n r (λ i. numbers r (1 + i)) f g
 
-  -- is row r as it is read
+  -- is row r as it is read, which has no mark
   read-wrong : (r : ℕ) → r < boundsOf h .rows → wrongAt (trialJob h c start w) f g r ≡ writtenWrong r
   unfolding trialNumber
   read-wrong r l =
-      rw (bounds-same h c start w facts, number-read h c start w facts r 0 l (omega arith))
+      unmarked-verdict _ _ _ _ f g (row-unmarked h c start w facts r l)
+      ∙ rw (bounds-same h c start w facts, number-read h c start w facts r 0 l (omega arith))
       (wrong-same p r n f f g g (λ i m. number-read h c start w facts r (1 + i) l (omega arith)) (λ i m k. refl) (λ k. refl))
 
   first-value : (r : ℕ) → numbers r 1 ≡ (valueBefore p f g r 0 + addedBy p (boundsOf h .rows) start w r) % p

@@ -14,7 +14,13 @@ use Rattle.format.specs.Bounds.{primeOf}
 use Rattle.header.specs.declared.Header.{Header}
 use Rattle.header.specs.Header.{headerLengthOf, boundsOf, headerOf, jobLengthOf}
 use Rattle.header.proofs.Appended.{header-append}
+use Rattle.header.proofs.Fields.{narrow}
 use Rattle.rows.specs.Rows.{numberAt}
+use Rattle.marked_rows.specs.declared.Mark.the-variants.{None}
+use Rattle.marked_rows.specs.Marks.{markAt, speaking, speaks, speakingCount}
+use Rattle.marked_rows.proofs.Marks.{unmarked-if-small}
+use Rattle.word.specs.Word.{countBelow}
+use Rattle.word.proofs.Counts.{count-all}
 use Rattle.answer.specs.Bytes.{coefficientBytes}
 use Rattle.answer.proofs.Lengths.{length-coefficients}
 use Rattle.answer.proofs.Reading.{SixteenBits, number-behind, coefficient-of-bytes}
@@ -93,3 +99,16 @@ module _ (h c : List ℕ) (start w : ℕ) (facts : TrialFacts h c w) where
   pub point-read : (r : ℕ) → r < L → numberAt job r 0 ≡ r
   unfolding trialNumber
   point-read r l = number-read r 0 l (omega arith)
+
+  -- the values are numbers below p, and no marks, also where marks are allowed: every row speaks
+  pub row-unmarked : (r : ℕ) → r < L → markAt job r ≡ None
+  row-unmarked r l =
+      let least = narrow job .outputs-least in
+      let outputs = ap (λ b. b .outputs) bounds-same in
+      let below = number-below r 1 l in
+      let small = modulus-small (boundsOf h .prime) in
+      unmarked-if-small _ (boundsOf job .outputs) _ 0 (omega arith) (rw (number-read r 1 l (omega arith)) (omega arith))
+
+  pub all-speak : speakingCount job ≡ L
+  unfolding speakingCount
+  all-speak = ap (λ b. countBelow (b .rows) (speaks job)) bounds-same ∙ count-all L (speaks job) (λ r l. ap speaking (row-unmarked r l))

@@ -48,6 +48,15 @@ unfolding countBelow
 count-most zero test = omega arith
 count-most (suc n) test = omega (arith, count-most n test, flag-most (test n))
 
+-- and as many where all pass
+pub count-all : (n : ℕ) (test : ℕ → Bool) → ((r : ℕ) → r < n → test r ≡ true) → countBelow n test ≡ n
+unfolding countBelow
+count-all zero test all = refl
+count-all (suc n) test all =
+    let before = count-all n test (λ r l. all r (omega arith)) in
+    let last = ap flagOf (all n (omega arith)) in
+    omega arith
+
 -- one place that passes, and two
 pub count-one : (test : ℕ → Bool) (n i : ℕ) → i < n → test i ≡ true → 1 ≤ countBelow n test
 unfolding countBelow

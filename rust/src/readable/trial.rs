@@ -1,6 +1,6 @@
 //! Readable trials.
 
-use super::first_line::{header_text, parse_header, HEADER};
+use super::first_line::{header_text, parse_header, Said, HEADER};
 use super::{excerpt, labelled, number, number_up_to, parse_bytes, Lines, TextError};
 use crate::format::{output_name, within};
 use crate::trial::too_high;
@@ -20,7 +20,7 @@ impl FromStr for Trial {
 
     fn from_str(text: &str) -> Result<Trial, TextError> {
         let mut lines = Lines::new(text);
-        let bounds = lines.take(HEADER, parse_header)?;
+        let (bounds, allows_marks) = lines.take(HEADER, parse_header)?;
         let (rows, start, spoiled) = lines.take(SPOILED, parse_spoiled)?;
         let mut take = |name: &str, bound: usize| {
             let parse = |content: &str| parse_polynomial(content, name, bound);
@@ -37,6 +37,9 @@ impl FromStr for Trial {
         let trial = Trial::new(bounds, rows, &denominator, &numerators);
         let mut trial = trial.map_err(|error| lines.error(error))?;
         (trial.start, trial.spoiled) = (start, spoiled);
+        if allows_marks {
+            trial.allow_marks();
+        }
         Ok(trial)
     }
 }
@@ -96,7 +99,11 @@ fn parse_term(term: &str) -> Result<(u16, usize), FormatError> {
 
 impl Display for Trial {
     fn fmt(&self, formatter: &mut Formatter<'_>) -> std::fmt::Result {
-        writeln!(formatter, "{}", header_text(self.bounds()))?;
+        let said = match self.allows_marks() {
+            true => Said::Flag,
+            false => Said::Length,
+        };
+        writeln!(formatter, "{}", header_text(self.bounds(), said))?;
         let (rows, start, spoiled) = (self.rows(), self.start, self.spoiled);
         writeln!(formatter, "rows {rows} start {start} spoiled {spoiled}")?;
         writeln!(formatter, "g = {}", polynomial_text(self.denominator()))?;

@@ -76,7 +76,7 @@ impl Added {
     pub fn breaks_a_rule(&self, job: &[u8]) -> bool {
         let (known, absent) = self.bounds.split_at(outputs_of(job));
         let is_largest = known.iter().max() == Some(&df_of(job));
-        self.flags != 0 || absent.iter().any(|&bound| bound != 0) || !is_largest
+        self.flags % 0x800 != 0 || absent.iter().any(|&bound| bound != 0) || !is_largest
     }
 }
 
@@ -113,8 +113,9 @@ impl Way {
         let (outputs, df) = (outputs_of(job), df_of(job));
         match self {
             Way::FlagBit => {
-                added.flags |= 1 << random.below(12);
-                Some(format!("the flag bits are {:012b}, not all 0", added.flags))
+                added.flags |= 1 << random.below(11);
+                let words = "not all 0 behind the first";
+                Some(format!("the flag bits are {:012b}, {words}", added.flags))
             }
             Way::AbsentOutput if outputs < 4 => {
                 let (output, bound) = (random.between(outputs, 3), random.between(1, 31));

@@ -1,9 +1,9 @@
 //! Streams of jobs of which some are damaged, with what is to be said of each.
 
 use super::support::longer::{break_rules, has_longer_header, lengthened, shortened, Added};
-use outside_checks::jobs::form::{most_rows, raise_bound, set_number, sound_job, Order};
+use outside_checks::jobs::form::{most_rows, raise_bound, set_number, silence, sound_job, Order};
 use outside_checks::jobs::Random;
-use outside_checks::layout::Job;
+use outside_checks::layout::{HeaderForm, Job};
 
 const SEED: u64 = 41;
 
@@ -31,12 +31,22 @@ fn enlarge(random: &mut Random, job: &mut Job) -> String {
     let prime = job.prime();
     let rows = [0, 1].map(|_| random.below(job.rows.len()));
     for row in rows {
-        let large = random.between(prime as usize, 65535) as u32;
+        // No mark.
+        let large = random.between(prime as usize, 65533) as u32;
         let columns = 1 + job.rows[row].values.len();
         set_number(job, row, random.below(columns), large);
     }
     let row = rows[0].min(rows[1]);
     format!("refused 5, row {row}: a point or a value is {prime} or more")
+}
+
+/// Makes rows of a job with the flag silent, until too few speak.
+fn silence_rows(random: &mut Random, job: &mut Job) -> String {
+    silence(random, job);
+    let (needed, speaking) = (job.needed_rows(), job.speaking());
+    format!(
+        "refused 12: df + dg + 2 E + 1 is {needed}, the number of rows that speak is {speaking}"
+    )
 }
 
 fn ask_for_more_rows(random: &mut Random, job: &mut Job) -> String {
@@ -55,8 +65,9 @@ pub struct Made {
     pub said: String,
 }
 
-/// The jobs of a stream, with either header. Each of the four refusals that are possible there is put into one job of eight,
-/// the last in order first, so that what is put in later is said; 11 into jobs with the longer header alone.
+/// The jobs of a stream, with any header. Each of the five refusals that are possible there is put into one job of eight,
+/// 11 and 12 into more of those that can have them, the last in order first, so that what is put in later is said. 11 comes
+/// with a longer header alone, and 12 with the flag.
 pub fn stream(count: usize) -> Vec<Made> {
     let mut byte = 0;
     let next = |number: usize| {
@@ -76,7 +87,13 @@ pub fn stream(count: usize) -> Vec<Made> {
 fn damaged(random: &mut Random) -> (Vec<u8>, String) {
     let mut job = sound(random);
     let mut said = ACCEPTED.to_string();
-    for damage in [repeat_point, enlarge, ask_for_more_rows] {
+    if random.once_in(8) {
+        said = repeat_point(random, &mut job);
+    }
+    if job.header == HeaderForm::Flagged && random.once_in(4) {
+        said = silence_rows(random, &mut job);
+    }
+    for damage in [enlarge, ask_for_more_rows] {
         if random.once_in(8) {
             said = damage(random, &mut job);
         }

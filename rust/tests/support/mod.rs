@@ -5,6 +5,7 @@ pub mod longer;
 
 use longer::{break_rules, has_longer_header, header_length, lengthened, shortened, Added};
 use outside_checks::jobs::{generate, Random};
+use outside_checks::layout;
 use std::fs;
 use std::io::Write;
 use std::path::{Path, PathBuf};
@@ -154,7 +155,11 @@ fn stream_job(seed: u64, index: u64) -> Option<Vec<u8>> {
         return Some(job);
     }
     if has_longer_header(&job) {
-        return Some(shortened(&job));
+        // Without the flag a mark would be a number.
+        return Some(match layout::Job::unpack(&job).has_marks() {
+            true => job,
+            false => shortened(&job),
+        });
     }
     let mut added = Added::equal(&job);
     if random.once_in(8) {

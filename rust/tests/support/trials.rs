@@ -27,6 +27,9 @@ pub fn trial_of(call: &TrialCall) -> Option<Trial> {
     }
     let mut trial = Trial::new(bounds, header.rows, denominator, &numerators).expect("a trial");
     (trial.start, trial.spoiled) = (call.start, call.spoiled);
+    if header.allows_marks() {
+        trial.allow_marks();
+    }
     Some(trial)
 }
 

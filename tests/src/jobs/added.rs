@@ -3,7 +3,7 @@
 
 use super::faults::{change_length, put_faults};
 use super::random::Random;
-use crate::layout::{HeaderForm, Job};
+use crate::layout::Job;
 
 /// A way to break a rule of the added header.
 #[derive(Clone, Copy, Debug, PartialEq, Eq)]
@@ -14,19 +14,18 @@ pub enum Breach {
     DfOfAbsent,
     DfAboveLargest,
     DfBelowLargest,
-    /// A flag is set: 0 is the first of the twelve.
+    /// A flag is set other than the first: 1 is the second of the twelve.
     Flag(usize),
 }
 
 impl Breach {
-    pub const ALL: [Breach; 18] = [
+    pub const ALL: [Breach; 17] = [
         Breach::AbsentBound(1),
         Breach::AbsentBound(2),
         Breach::AbsentBound(3),
         Breach::DfOfAbsent,
         Breach::DfAboveLargest,
         Breach::DfBelowLargest,
-        Breach::Flag(0),
         Breach::Flag(1),
         Breach::Flag(2),
         Breach::Flag(3),
@@ -47,7 +46,7 @@ impl Breach {
             Breach::DfOfAbsent => job.outputs() < 4 && job.numerator_bound() < 31,
             _ => true,
         };
-        has_place && job.header == HeaderForm::Longer
+        has_place && job.header.is_longer()
     }
 
     /// Breaks the sound header at the start of a job's bytes so, and in no other way.

@@ -1,9 +1,10 @@
-//! Pairs of jobs for the enlargement rule of paper 01: the larger one holds every row of the
-//! smaller one, in another order, with further rows, bounds of its own, and either header.
+//! Pairs of jobs for the enlargement rule of paper 01, with item 6 of paper 02: the larger one holds every row of the
+//! smaller one that speaks, in another order, with further rows, bounds of its own, and any header.
 
-use super::planted::{planted, Planted, Shape, WrongRows};
+use super::marked::Marks;
+use super::planted::{free_point, planted, Planted, Shape, WrongRows};
 use super::random::Random;
-use crate::layout::{value_at, wrong_rows, HeaderForm, Job, Row, MOST_ROWS};
+use crate::layout::{value_at, wrong_rows, HeaderForm, Job, Mark, Row, MOST_ROWS};
 use crate::second::Field;
 
 pub struct Pair {
@@ -20,8 +21,11 @@ pub fn generate(seed: u64, index: u64) -> Pair {
         Shape::AllZero,
         Shape::LooseBounds,
         Shape::Any,
+        Shape::Marked(random.one_of(&Marks::ALL)),
+        Shape::Marked(Marks::Silent),
+        Shape::Marked(Marks::PolesAndSilent),
     ];
-    let shape = shapes[random.below(shapes.len())];
+    let shape = random.one_of(&shapes);
     let wrong = match random.below(8) {
         0 if shape != Shape::Poles => WrongRows::None,
         1 => WrongRows::OneTooMany,
@@ -30,6 +34,16 @@ pub fn generate(seed: u64, index: u64) -> Pair {
     };
     let planted = planted(&mut random, shape, wrong);
     let mut larger = planted.job.clone();
+    replace_silent_rows(&mut random, &planted, &mut larger);
+    larger.header = match larger.has_marks() {
+        true => HeaderForm::Flagged,
+        false => random.one_of(&[
+            HeaderForm::Short,
+            HeaderForm::Longer,
+            HeaderForm::Longer,
+            HeaderForm::Flagged,
+        ]),
+    };
     add_rows(&mut random, &planted, &mut larger);
     draw_bounds(&mut random, &planted, &mut larger);
     random.shuffle(&mut larger.rows);
@@ -39,7 +53,26 @@ pub fn generate(seed: u64, index: u64) -> Pair {
     }
 }
 
-/// Further rows at free points: mostly right ones, or none at all, or some wrong ones.
+/// Takes silent rows away, or puts rows that speak in their places: none of them, some, or all.
+fn replace_silent_rows(random: &mut Random, planted: &Planted, larger: &mut Job) {
+    let share = random.between(0, 2);
+    for row in planted.job.marked(Mark::Silent).into_iter().rev() {
+        let point = larger.rows[row].point;
+        if random.below(2) >= share {
+            continue;
+        }
+        match random.once_in(2) {
+            true => drop(larger.rows.remove(row)),
+            false => {
+                let is_wrong = random.once_in(3);
+                larger.rows[row] = row_at(random, planted, point, is_wrong);
+            }
+        }
+    }
+}
+
+/// Further rows at free points: mostly right ones, or none at all, or some wrong ones; where the flag allows it, silent ones
+/// too, and reports of poles, true or false.
 fn add_rows(random: &mut Random, planted: &Planted, larger: &mut Job) {
     let prime = larger.prime();
     let space = MOST_ROWS.min(prime as usize) - larger.rows.len();
@@ -56,16 +89,21 @@ fn add_rows(random: &mut Random, planted: &Planted, larger: &mut Job) {
             _ => free_point(random, larger),
         };
         let wrong = random.once_in(wrong_share);
-        larger.rows.push(row_at(random, planted, point, wrong));
+        let mut row = row_at(random, planted, point, wrong);
+        if larger.header == HeaderForm::Flagged {
+            mark(random, planted, &mut row, wrong);
+        }
+        larger.rows.push(row);
     }
 }
 
-fn free_point(random: &mut Random, job: &Job) -> u32 {
-    loop {
-        let point = random.residue(job.prime());
-        if job.rows.iter().all(|row| row.point != point) {
-            return point;
-        }
+/// Makes a row silent at times, and lets a row at a root of g report it, mostly, and a row that may be wrong at times.
+fn mark(random: &mut Random, planted: &Planted, row: &mut Row, is_wrong: bool) {
+    let is_root = value_at(&planted.denominator, row.point, planted.job.prime()) == 0;
+    match random.below(4) {
+        0 => row.put(Mark::Silent),
+        1 | 2 if is_root || is_wrong => row.put(Mark::Pole),
+        _ => {}
     }
 }
 
@@ -94,13 +132,13 @@ fn row_at(random: &mut Random, planted: &Planted, point: u32, wrong: bool) -> Ro
 }
 
 /// Bounds that the fraction meets and that the rows suffice for; E is often the number of wrong
-/// rows, or one less. Under the longer header each f has a bound of its own, which may be its degree.
+/// rows, or one less. Under a longer header each f has a bound of its own, which may be its degree.
 fn draw_bounds(random: &mut Random, planted: &Planted, larger: &mut Job) {
     let degree = |f: &Vec<u32>| f.len().saturating_sub(1);
     let degrees: Vec<usize> = planted.numerators.iter().map(degree).collect();
     let numerator_degree = degrees.iter().copied().max().unwrap_or(0);
     let denominator_degree = planted.denominator.len() - 1;
-    let room = larger.rows.len() - 1 - numerator_degree - denominator_degree;
+    let room = larger.speaking() - 1 - numerator_degree - denominator_degree;
     let wrong = wrong_rows(larger, &planted.denominator, &planted.numerators).count_ones() as usize;
     let most_errors = 15.min(room / 2);
     let errors = match random.below(5) {
@@ -114,9 +152,8 @@ fn draw_bounds(random: &mut Random, planted: &Planted, larger: &mut Job) {
     let part = random.between(0, sum);
     let df = numerator_degree + part;
     larger.denominator_bound = denominator_degree + sum - part;
-    larger.header = random.one_of(&[HeaderForm::Short, HeaderForm::Longer, HeaderForm::Longer]);
     larger.numerator_bounds.fill(df);
-    if larger.header == HeaderForm::Longer {
+    if larger.header.is_longer() {
         let bounds = degrees.into_iter().map(|degree| {
             let any = random.between(degree, df);
             random.one_of(&[any, any, degree, df])

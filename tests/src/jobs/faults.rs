@@ -2,7 +2,7 @@
 
 use super::form::{rising_rows, set_number};
 use super::random::Random;
-use crate::layout::{HeaderForm, Job};
+use crate::layout::{HeaderForm, Job, Mark};
 
 /// Bytes missing, bytes too many, or another number of rows in the header, which stays whole.
 pub fn change_length(random: &mut Random, bytes: &mut Vec<u8>) {
@@ -35,7 +35,7 @@ pub fn raise_bound(random: &mut Random, job: &mut Job) {
     let df = random.between(least, 31);
     let raised = match job.header {
         HeaderForm::Short => &mut job.numerator_bounds[..],
-        HeaderForm::Longer => {
+        HeaderForm::Longer | HeaderForm::Flagged => {
             let output = random.below(job.outputs());
             &mut job.numerator_bounds[output..=output]
         }
@@ -43,10 +43,24 @@ pub fn raise_bound(random: &mut Random, job: &mut Job) {
     raised.fill(df);
 }
 
-/// Puts those of the faults 4, 5 and 6 that are named into a job of three rows or more. Returns the row that 5 speaks of.
+/// Makes rows silent until one or more is missing among those that speak; the header gets the flag.
+pub fn silence(random: &mut Random, job: &mut Job) {
+    job.header = HeaderForm::Flagged;
+    let fewest = random.below(job.needed_rows());
+    let wanted = random.one_of(&[job.needed_rows() - 1, fewest]);
+    while job.speaking() > wanted {
+        let row = random.below(job.rows.len());
+        job.rows[row].put(Mark::Silent);
+    }
+}
+
+/// Puts those of the faults 4, 5, 12 and 6 that are named into a job of three rows or more. Returns the row that 5 speaks of.
 pub fn put_faults(random: &mut Random, job: &mut Job, faults: &[u32]) -> usize {
     if faults.contains(&4) {
         raise_bound(random, job);
+    }
+    if faults.contains(&12) {
+        silence(random, job);
     }
     let rows = rising_rows(random, (0..job.rows.len()).collect(), 3);
     if faults.contains(&6) {
@@ -55,16 +69,20 @@ pub fn put_faults(random: &mut Random, job: &mut Job, faults: &[u32]) -> usize {
     // Mostly behind the row that 6 speaks of.
     let row = random.one_of(&[rows[0], rows[1], rows[2], rows[2]]);
     if faults.contains(&5) {
-        put_large_value(random, job, row);
+        let column = random.between(1, job.outputs());
+        let number = large_number(random, job);
+        set_number(job, row, column, number);
     }
     row
 }
 
-/// A value of p or more; the point stays.
-fn put_large_value(random: &mut Random, job: &mut Job, row: usize) {
+/// A number of p or more, often the least one. Under a header with the flag it is no mark.
+pub fn large_number(random: &mut Random, job: &Job) -> u32 {
     let prime = job.prime();
-    let drawn = random.between(prime as usize, 65535) as u32;
-    let number = random.one_of(&[prime, prime + 1, 65535, drawn]);
-    let column = random.between(1, job.outputs());
-    set_number(job, row, column, number);
+    let highest = match job.header {
+        HeaderForm::Flagged => 65533,
+        _ => 65535,
+    };
+    let drawn = random.between(prime as usize, highest as usize) as u32;
+    random.one_of(&[prime, prime + 1, highest, drawn])
 }

@@ -1,19 +1,23 @@
 //! Jobs with faults: made to be refused with a given number, damaged, or random.
 
 use super::added::Broken;
-use super::faults::{change_length, raise_bound, take_rows};
+use super::faults::{change_length, large_number, raise_bound, take_rows};
+use super::form::set_number;
+use super::marked::Marks;
 use super::planted::{draw_header, planted, Shape, WrongRows};
-use super::{new_job, Expected, GeneratedJob, Kind, Random};
-use crate::layout::{HeaderForm, Job, Row};
+use super::{false_marks, new_job, Expected, GeneratedJob, Kind, Random};
+use crate::layout::{HeaderForm, Job, Mark, Row};
 
-/// A well formed job to be spoilt.
-fn sound_job(random: &mut Random) -> Job {
+/// A well formed job to be spoilt; some rows of every fourth one are marked.
+pub fn sound_job(random: &mut Random) -> Job {
     let wrong = match random.below(3) {
         0 => WrongRows::None,
         1 => WrongRows::Exact,
         _ => WrongRows::OneTooMany,
     };
-    planted(random, Shape::Any, wrong).job
+    let marked = Shape::Marked(random.one_of(&Marks::ALL));
+    let shape = random.one_of(&[Shape::Any, Shape::Any, Shape::Any, marked]);
+    planted(random, shape, wrong).job
 }
 
 /// An area that is often too short as well, which only matters where nothing else is wrong.
@@ -29,11 +33,12 @@ pub fn refused(random: &mut Random, number: u32) -> GeneratedJob {
         4 => too_few_rows(random),
         5 => out_of_range(random),
         6 => repeated_point(random),
+        12 => false_marks::too_few_speaking(random),
         _ => short_area(random),
     }
 }
 
-fn faulty(
+pub fn faulty(
     random: &mut Random,
     mut kinds: Vec<Kind>,
     two_faults: bool,
@@ -64,7 +69,9 @@ fn too_short(random: &mut Random) -> GeneratedJob {
 pub fn spare_bit(random: &mut Random) -> GeneratedJob {
     let mut job = sound_job(random).under(HeaderForm::Short);
     let most = 4095.min(job.prime() - 1);
-    job.rows[0].values[0] = random.between(1, most as usize) as u32;
+    let flags = random.between(1, most as usize) as u32;
+    // The first flag alone would be let through.
+    job.rows[0].values[0] = if flags == 0x800 { 1 } else { flags };
     let mut bytes = job.pack();
     bytes[2] |= 1;
     let length = bytes.len();
@@ -140,8 +147,8 @@ fn crowded_job(random: &mut Random) -> Job {
     job
 }
 
-/// A job for the refusals 5 and 6, with two rows or more.
-fn job_with_rows(random: &mut Random, kinds: &mut Vec<Kind>) -> Job {
+/// A job for the refusals 5, 12 and 6, with two rows or more.
+pub fn job_with_rows(random: &mut Random, kinds: &mut Vec<Kind>) -> Job {
     if random.once_in(5) {
         kinds.push(Kind::MoreRowsThanPrime);
         return crowded_job(random);
@@ -158,7 +165,6 @@ fn job_with_rows(random: &mut Random, kinds: &mut Vec<Kind>) -> Job {
 fn out_of_range(random: &mut Random) -> GeneratedJob {
     let mut kinds = vec![Kind::Refused5];
     let mut job = job_with_rows(random, &mut kinds);
-    let prime = job.prime() as usize;
     let two_faults = random.once_in(3);
     if two_faults {
         job.rows[1].point = job.rows[0].point;
@@ -166,16 +172,9 @@ fn out_of_range(random: &mut Random) -> GeneratedJob {
     let mut first = job.rows.len();
     for _ in 0..random.between(1, 3) {
         let row = random.below(job.rows.len());
-        let number = if random.once_in(2) {
-            prime
-        } else {
-            random.between(prime, 65535)
-        };
         let place = random.below(1 + job.outputs());
-        match place {
-            0 => job.rows[row].point = number as u32,
-            _ => job.rows[row].values[place - 1] = number as u32,
-        }
+        let number = large_number(random, &job);
+        set_number(&mut job, row, place, number);
         first = first.min(row);
     }
     faulty(random, kinds, two_faults, job.pack(), (5, first as u32))
@@ -213,14 +212,22 @@ fn short_area(random: &mut Random) -> GeneratedJob {
     new_job(random, kinds, job.pack(), area_length, expected)
 }
 
-/// A well formed job whose values mean nothing: mostly refused with 8.
+/// A well formed job whose values mean nothing: mostly refused with 8. Silent rows stay silent, and some others of a job
+/// with the flag report a pole.
 pub fn random_values(random: &mut Random) -> GeneratedJob {
     let mut job = sound_job(random);
-    let prime = job.prime();
-    for row in &mut job.rows {
+    let (prime, silent) = (job.prime(), job.marked(Mark::Silent));
+    let has_marks = job.header == HeaderForm::Flagged;
+    for (place, row) in job.rows.iter_mut().enumerate() {
+        if silent.contains(&place) {
+            continue;
+        }
         row.values
             .iter_mut()
             .for_each(|value| *value = random.residue(prime));
+        if has_marks && random.once_in(4) {
+            row.put(Mark::Pole);
+        }
     }
     let area_length = job.answer_length() + random.below(3);
     new_job(
@@ -236,7 +243,7 @@ pub fn random_values(random: &mut Random) -> GeneratedJob {
 pub fn damaged(random: &mut Random) -> GeneratedJob {
     let job = sound_job(random);
     let mut bytes = job.pack();
-    let of_header = job.header == HeaderForm::Longer && random.once_in(2);
+    let of_header = job.header.is_longer() && random.once_in(2);
     for _ in 0..random.between(1, 3) {
         let place = match of_header {
             true => random.between(3, 6),
@@ -280,7 +287,7 @@ pub fn random_bytes(random: &mut Random) -> GeneratedJob {
     open_job(random, Kind::RandomBytes, bytes)
 }
 
-/// A header with small bounds, so that the tests behind 4 are reached, and rows of random bytes.
+/// A header with small bounds, so that the tests behind 4 are reached, and rows of random bytes, some marked.
 fn fitting_bytes(random: &mut Random) -> Vec<u8> {
     let (outputs, df) = (random.between(1, 4), random.below(2));
     let row = Row {
@@ -299,6 +306,15 @@ fn fitting_bytes(random: &mut Random) -> Vec<u8> {
     let mut rows = random.bytes(2 * job.rows.len() * (1 + outputs));
     if random.once_in(2) {
         keep_in_range(&mut rows, job.prime());
+    }
+    for row in rows.chunks_mut(2 * (1 + outputs)) {
+        match random.below(4) {
+            0 => row[2..].fill(0xFF),
+            1 => row[2..]
+                .chunks_mut(2)
+                .for_each(|value| value.copy_from_slice(&[0xFF, 0xFE])),
+            _ => {}
+        }
     }
     [job.packed_header(), rows].concat()
 }

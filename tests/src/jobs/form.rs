@@ -8,7 +8,8 @@ mod sound;
 mod tally;
 
 use super::added::Broken;
-pub use super::faults::raise_bound;
+use super::false_marks::FalseMark;
+pub use super::faults::{raise_bound, silence};
 use super::random::Random;
 use super::{faulty, planned, GeneratedJob};
 use crate::layout::Job;
@@ -17,7 +18,7 @@ pub use large::set_number;
 use large::Large;
 pub use repeated::rising_rows;
 use repeated::Repeated;
-pub use sound::{most_rows, sound_job, Order};
+pub use sound::{most_rows, sound_job, unmarked_job, Order};
 use sound::{sound_size, Turn};
 pub use tally::Tally;
 
@@ -30,6 +31,10 @@ pub enum Kind {
     Accepted(Order),
     /// Refused with this number, often with another fault behind.
     Refused(u32),
+    /// Refused with 5 for what is no mark.
+    FalseMark,
+    /// Too few rows speak, and nothing else is wrong.
+    Silenced,
     /// One number is p or more.
     Large,
     /// Points stand in earlier rows too.
@@ -53,7 +58,8 @@ impl Kind {
         match self {
             Kind::Accepted(_) => Some(0),
             Kind::Refused(number) | Kind::Crowded(number) | Kind::Both(number, _) => Some(number),
-            Kind::Large => Some(5),
+            Kind::Large | Kind::FalseMark => Some(5),
+            Kind::Silenced => Some(12),
             Kind::Repeated(_) => Some(6),
             Kind::SpareBit | Kind::Broken => None,
             Kind::AsRecovered | Kind::Damaged | Kind::RandomBytes => None,
@@ -62,10 +68,10 @@ impl Kind {
 }
 
 /// What else is wrong where an added header is broken.
-const OTHER_FAULTS: [u32; 6] = [0, 1, 3, 4, 5, 6];
+const OTHER_FAULTS: [u32; 7] = [0, 1, 3, 4, 5, 12, 6];
 
 /// Each kind with its share.
-const PLAN: [(Kind, usize); 27] = [
+const PLAN: [(Kind, usize); 35] = [
     (Kind::AsRecovered, 14),
     (Kind::Accepted(Order::Rising), 4),
     (Kind::Accepted(Order::Falling), 4),
@@ -76,6 +82,9 @@ const PLAN: [(Kind, usize); 27] = [
     (Kind::Refused(3), 4),
     (Kind::Refused(4), 4),
     (Kind::Refused(5), 4),
+    (Kind::FalseMark, 6),
+    (Kind::Refused(12), 2),
+    (Kind::Silenced, 8),
     (Kind::Refused(6), 4),
     (Kind::Large, 14),
     (Kind::Repeated(Repeated::Neighbours), 4),
@@ -84,6 +93,7 @@ const PLAN: [(Kind, usize); 27] = [
     (Kind::Repeated(Repeated::Several), 4),
     (Kind::Repeated(Repeated::ThreeTimes), 4),
     (Kind::Crowded(5), 2),
+    (Kind::Crowded(12), 2),
     (Kind::Crowded(6), 2),
     (Kind::Both(3, 4), 1),
     (Kind::Both(3, 5), 1),
@@ -91,6 +101,10 @@ const PLAN: [(Kind, usize); 27] = [
     (Kind::Both(4, 5), 1),
     (Kind::Both(4, 6), 1),
     (Kind::Both(5, 6), 1),
+    (Kind::Both(3, 12), 1),
+    (Kind::Both(4, 12), 1),
+    (Kind::Both(5, 12), 1),
+    (Kind::Both(12, 6), 1),
     (Kind::Damaged, 2),
     (Kind::RandomBytes, 2),
 ];
@@ -120,6 +134,12 @@ pub fn generate(seed: u64, index: u64) -> FormJob {
             FormJob::accepted(&sound_job(random, size, order))
         }
         Kind::Refused(number) => FormJob::of(faulty::refused(random, number)),
+        Kind::FalseMark => FormJob::of(FalseMark::of_turn(count).job(random)),
+        Kind::Silenced => {
+            let mut job = sound_job(random, sound_size(turn, 1), Order::ALL[turn.below(3)]);
+            silence(random, &mut job);
+            FormJob::refused(job.pack(), 12, 0)
+        }
         Kind::Large => large::job(random, turn),
         Kind::Repeated(repeated) => repeated.job(random, turn),
         Kind::Crowded(number) => crowded::job(random, turn, number),

@@ -1,5 +1,6 @@
 //! Random reduced fractions within a job's bounds.
 
+use super::marked::Marks;
 use super::planted::Shape;
 use super::random::Random;
 use crate::layout::Job;
@@ -38,10 +39,42 @@ impl Fraction {
             }
             Shape::CommonFactor => Fraction::enlarged(random, job, wrong_count),
             Shape::PartlyCommon => Fraction::partly_common(random, job, wrong_count),
+            Shape::Marked(Marks::OwnPoles) => {
+                let poles = random.between(1, job.denominator_bound);
+                Fraction::with_own_poles(random, job, poles)
+            }
+            Shape::Marked(marks) => {
+                let poles = marks.poles(random, job)?;
+                Fraction::within(random, job, poles)
+            }
             Shape::Any | Shape::WholeField | Shape::LongestAnswer => {
                 Fraction::within(random, job, 0)
             }
         }
+    }
+
+    /// The same where each of these roots of g is a root of the own denominator of one output alone: it is a root of every
+    /// other f too. An f whose bound leaves no room for that is zero.
+    fn with_own_poles(random: &mut Random, job: &Job, poles: usize) -> Option<Fraction> {
+        let field = Field::new(job.prime());
+        let degree = drawn_degree(random, job.denominator_bound - poles);
+        let denominator = with_roots(random, job, degree, poles);
+        let owners: Vec<usize> = (0..poles).map(|_| random.below(job.outputs())).collect();
+        let own_numerator = |(output, &bound): (usize, &usize)| {
+            let others = owners.iter().zip(&job.rows);
+            let others = others.filter(|(owner, _)| **owner != output);
+            let roots: Vec<u32> = others.map(|(_, row)| row.point).collect();
+            let Some(room) = bound.checked_sub(roots.len()) else {
+                return Polynomial::zero();
+            };
+            let start = numerator(random, room, job.prime());
+            roots.into_iter().fold(start, |product, root| {
+                product.times(&linear(root, field), field)
+            })
+        };
+        let bounds = job.numerator_bounds.iter().enumerate();
+        let numerators = bounds.map(own_numerator).collect();
+        Fraction::if_reduced(denominator, numerators, job)
     }
 
     /// A fraction within the job's bounds whose denominator is zero at the first `poles` points.
@@ -116,12 +149,16 @@ fn with_roots(random: &mut Random, job: &Job, degree: usize, roots: usize) -> Po
     let field = Field::new(job.prime());
     let mut coefficients: Vec<u32> = (0..degree).map(|_| random.residue(job.prime())).collect();
     coefficients.push(1);
-    let linear = |point| Polynomial::new(vec![field.subtract(0, point), 1]);
     job.rows[..roots]
         .iter()
         .fold(Polynomial::new(coefficients), |product, row| {
-            product.times(&linear(row.point), field)
+            product.times(&linear(row.point, field), field)
         })
+}
+
+/// u − x.
+fn linear(point: u32, field: Field) -> Polynomial {
+    Polynomial::new(vec![field.subtract(0, point), 1])
 }
 
 /// Mostly the highest degree allowed.

@@ -1,11 +1,12 @@
-//! Counts of what a run has of both headers, with their floors.
+//! Counts of what a run has of the headers, with their floors.
 
 use super::added::{Breach, Broken};
 use super::tally::{least, Counts};
 use crate::layout::{HeaderForm, Job, LONGEST_JOB};
 
-/// Floors out of a thousand of all: bytes that are too few for the added header.
-const FEW_FLOORS: [(&str, usize); 4] = [
+/// Floors out of a thousand of all: bytes that are too few for the added header, and headers with two flags.
+const FEW_FLOORS: [(&str, usize); 5] = [
+    ("the first flag and another one", 3),
     ("spare bit 1 and 3 bytes", 1),
     ("spare bit 1 and 4 bytes", 1),
     ("spare bit 1 and 5 bytes", 1),
@@ -13,7 +14,8 @@ const FEW_FLOORS: [(&str, usize); 4] = [
 ];
 
 /// Floors out of a thousand of those that are sound.
-const SOUND_FLOORS: [(&str, usize); 7] = [
+const SOUND_FLOORS: [(&str, usize); 8] = [
+    ("longer header, the flag", 200),
     ("longer header, equal bounds", 200),
     ("longer header, bounds that differ", 150),
     ("largest bound at f1 alone", 40),
@@ -37,6 +39,9 @@ impl HeaderTally {
         self.all += 1;
         if let Some(Broken { breach, other }) = broken {
             self.counts.add(&broken_name(breach, other), true);
+            let is_flag = matches!(breach, Breach::Flag(_));
+            let has_both = is_flag && HeaderForm::of(bytes) == HeaderForm::Flagged;
+            self.counts.add("the first flag and another one", has_both);
         }
         if bytes.len() < 3 || HeaderForm::of(bytes) == HeaderForm::Short {
             return;
@@ -53,7 +58,8 @@ impl HeaderTally {
             return;
         }
         let counts = &mut self.counts;
-        let is_equal = job.has_equal_bounds();
+        let (is_equal, is_flagged) = (job.has_equal_bounds(), job.header == HeaderForm::Flagged);
+        counts.add("longer header, the flag", is_flagged);
         counts.add("longer header, equal bounds", is_equal);
         counts.add("longer header, bounds that differ", !is_equal);
         counts.add("jobs of 317 bytes", job.pack().len() == LONGEST_JOB);

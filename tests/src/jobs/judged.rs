@@ -13,7 +13,7 @@ use super::added::Broken;
 use super::planted::Planted;
 use super::random::Random;
 use super::{faulty, planned};
-use crate::layout::{Answer, Job};
+use crate::layout::{Answer, Job, Mark};
 use altered::{Bit, Vector, Word};
 use hanthuvelo::{hex, Judgement};
 use open::Open;
@@ -74,11 +74,12 @@ impl Kind {
 }
 
 /// What else is wrong where an added header is broken.
-const OTHER_FAULTS: [u32; 6] = [0, 1, 3, 4, 5, 6];
+const OTHER_FAULTS: [u32; 7] = [0, 1, 3, 4, 5, 12, 6];
 
 /// Each kind with its share.
-const PLAN: [(Kind, usize); 56] = [
+const PLAN: [(Kind, usize); 64] = [
     (Kind::Right(Right::Any), 11),
+    (Kind::Right(Right::Marked), 6),
     (Kind::Right(Right::AllZero), 2),
     (Kind::Right(Right::PartlyCommon), 4),
     (Kind::Right(Right::OtherAnswer), 2),
@@ -87,6 +88,9 @@ const PLAN: [(Kind, usize); 56] = [
     (Kind::Word(Word::RowLess), 2),
     (Kind::Word(Word::RowsSwapped), 2),
     (Kind::Word(Word::NoSuchRow), 2),
+    (Kind::Word(Word::SilentRow), 2),
+    (Kind::Word(Word::RightPole), 2),
+    (Kind::Word(Word::FalsePole), 2),
     (Kind::Bit(Bit::OfAnyAnswer), 4),
     (Kind::Bit(Bit::OfLongestAnswer), 5),
     (Kind::Vector(Vector::Scaled), 2),
@@ -103,6 +107,7 @@ const PLAN: [(Kind, usize); 56] = [
     (Kind::TooMany(TooMany::AllMarked), 4),
     (Kind::TooMany(TooMany::OneNotMarked), 2),
     (Kind::TooMany(TooMany::Spoiled), 3),
+    (Kind::TooMany(TooMany::FalsePoles), 2),
     (Kind::CutAtOwnBound, 2),
     (Kind::Open(Open::RandomVector), 4),
     (Kind::Open(Open::DamagedJob), 2),
@@ -121,6 +126,7 @@ const PLAN: [(Kind, usize); 56] = [
     (Kind::Refused(3, Fit::RightLength), 1),
     (Kind::Refused(4, Fit::RightLength), 1),
     (Kind::Refused(5, Fit::RightLength), 1),
+    (Kind::Refused(12, Fit::RightLength), 1),
     (Kind::Refused(6, Fit::RightLength), 1),
     (Kind::Refused(1, Fit::OtherLength), 1),
     (Kind::SpareBit(Fit::OtherLength), 1),
@@ -128,11 +134,13 @@ const PLAN: [(Kind, usize); 56] = [
     (Kind::Refused(3, Fit::OtherLength), 1),
     (Kind::Refused(4, Fit::OtherLength), 1),
     (Kind::Refused(5, Fit::OtherLength), 1),
+    (Kind::Refused(12, Fit::OtherLength), 1),
     (Kind::Refused(6, Fit::OtherLength), 1),
     (Kind::Slight(11), 1),
     (Kind::Slight(3), 1),
     (Kind::Slight(4), 1),
     (Kind::Slight(5), 1),
+    (Kind::Slight(12), 1),
     (Kind::Slight(6), 1),
 ];
 
@@ -225,9 +233,19 @@ impl Planted {
         Answer::unpack(&self.answer().pack(&self.job), &self.job)
     }
 
-    /// The rows that are wrong for the planted answer, and those that are right.
+    /// The rows that are wrong for the planted answer, and those that are right; silent ones are neither.
     fn wrong_and_right_rows(&self) -> (Vec<usize>, Vec<usize>) {
         let rows = 0..self.job.rows.len();
-        rows.partition(|row| self.word << row >> 31 == 1)
+        let speaking = rows.filter(|&row| !self.job.is_marked(row, Mark::Silent));
+        speaking.partition(|row| self.word << row >> 31 == 1)
+    }
+
+    /// The rows that report a pole wrongly, and those that do rightly.
+    fn wrong_and_right_poles(&self) -> (Vec<usize>, Vec<usize>) {
+        let (mut wrong, mut right) = self.wrong_and_right_rows();
+        for rows in [&mut wrong, &mut right] {
+            rows.retain(|&row| self.job.is_marked(row, Mark::Pole));
+        }
+        (wrong, right)
     }
 }

@@ -1,16 +1,19 @@
 //! Jobs that would have an answer if the largest bound were that of every output, and have none.
 
+use super::marked::Marks;
 use super::planted::{planted, Planted, Shape, WrongRows};
 use super::random::Random;
 use crate::layout::{HeaderForm, Job};
 
-const SHAPES: [(Shape, WrongRows); 6] = [
+const SHAPES: [(Shape, WrongRows); 8] = [
     (Shape::Any, WrongRows::None),
     (Shape::Any, WrongRows::Fewer),
     (Shape::Any, WrongRows::Exact),
     (Shape::Poles, WrongRows::Exact),
     (Shape::CommonFactor, WrongRows::Exact),
     (Shape::WholeField, WrongRows::Exact),
+    (Shape::Marked(Marks::Poles), WrongRows::Exact),
+    (Shape::Marked(Marks::PolesAndSilent), WrongRows::Fewer),
 ];
 
 /// A planted answer of which one f has a degree above its own bound, often by 1, while df is the bound of another output.
@@ -30,7 +33,9 @@ pub fn beyond_own_bound(random: &mut Random) -> Planted {
         let output = random.one_of(&outputs);
         let degree = degree(output);
         let any = random.below(degree);
-        planted.job.header = HeaderForm::Longer;
+        if planted.job.header == HeaderForm::Short {
+            planted.job.header = HeaderForm::Longer;
+        }
         planted.job.numerator_bounds[output] = random.one_of(&[degree - 1, degree - 1, any]);
         return planted;
     }

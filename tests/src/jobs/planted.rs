@@ -1,8 +1,9 @@
 //! Jobs made from a known reduced answer, with a known number of wrong rows.
 
 use super::fraction::{numerators_within, Fraction};
+use super::marked::Marks;
 use super::random::Random;
-use crate::layout::{has_pole, wrong_rows, HeaderForm, Job, Row, MOST_ROWS, PRIMES};
+use crate::layout::{has_pole, wrong_rows, HeaderForm, Job, Mark, Row, MOST_ROWS, PRIMES};
 use crate::second::polynomial::Polynomial;
 use crate::second::Field;
 
@@ -37,6 +38,8 @@ pub enum Shape {
     PartlyCommon,
     /// 31 rows, four outputs, df 30 and dg 0.
     LongestAnswer,
+    /// Rows report poles or are silent.
+    Marked(Marks),
 }
 
 pub struct Planted {
@@ -70,6 +73,9 @@ pub fn planted(random: &mut Random, shape: Shape, wrong: WrongRows) -> Planted {
             continue;
         };
         fill_values(random, &mut job, &fraction);
+        if let Shape::Marked(marks) = shape {
+            marks.report(random, &mut job, &fraction);
+        }
         random.shuffle(&mut job.rows);
         let denominator = fraction.denominator.coefficients().to_vec();
         let numerators: Vec<Vec<u32>> = fraction
@@ -105,6 +111,7 @@ fn least(shape: Shape, wrong: WrongRows) -> Least {
         Shape::CommonFactor | Shape::PartlyCommon => (1, 1, 2),
         Shape::LooseBounds => (0, 0, 8),
         Shape::LongestAnswer => (30, 0, 30),
+        Shape::Marked(marks) => marks.least(),
         Shape::Any | Shape::AllZero | Shape::WholeField => (0, 0, 0),
     };
     let errors = match wrong {
@@ -129,17 +136,25 @@ pub fn header(random: &mut Random, shape: Shape, wrong: WrongRows) -> Job {
     };
     let prime = PRIMES[prime_code];
     let least = least(shape, wrong);
-    let most_rows = MOST_ROWS.min(prime as usize);
+    let most_rows = match shape {
+        Shape::Marked(marks) => marks.most_speaking(prime),
+        _ => MOST_ROWS.min(prime as usize),
+    };
     let row_count = match shape {
         Shape::WholeField => most_rows,
         _ => random.between(least.bounds_sum + 2 * least.errors + 1, most_rows),
     };
     let outputs = match shape {
-        Shape::PartlyCommon => random.between(2, 4),
+        Shape::PartlyCommon | Shape::Marked(Marks::OwnPoles) => random.between(2, 4),
         Shape::LongestAnswer => 4,
         _ => random.between(1, 4),
     };
-    sized(random, (prime_code, outputs, row_count), &least, wrong)
+    let mut job = sized(random, (prime_code, outputs, row_count), &least, wrong);
+    if let Shape::Marked(marks) = shape {
+        job.header = HeaderForm::Flagged;
+        marks.add_silent_rows(random, &mut job);
+    }
+    job
 }
 
 /// The same for a prime's code, a number of outputs and a number of rows, with any bounds that the
@@ -175,13 +190,14 @@ fn sized(
     job
 }
 
-/// Takes the longer header for two jobs of three; it mostly has a bound of each output's own, this one at least. df, which
-/// is every bound before, stays that of one output, and often of this one alone.
+/// Takes the longer header for two jobs of three, for every other one of these with the flag for marks. It mostly has a bound
+/// of each output's own, this one at least. df, which is every bound before, stays that of one output, and often of this one
+/// alone.
 pub fn draw_header(random: &mut Random, job: &mut Job, least: usize) {
     if random.once_in(3) {
         return;
     }
-    job.header = HeaderForm::Longer;
+    job.header = random.one_of(&[HeaderForm::Longer, HeaderForm::Flagged]);
     let (df, largest) = (job.numerator_bound(), random.below(job.outputs()));
     let highest = match random.below(5) {
         0 => return,
@@ -213,6 +229,16 @@ fn draw_bounds(random: &mut Random, job: &mut Job, least: &Least, wrong: WrongRo
     job.numerator_bounds.fill(df);
 }
 
+/// A residue that is no point yet; one must be left.
+pub fn free_point(random: &mut Random, job: &Job) -> u32 {
+    loop {
+        let point = random.residue(job.prime());
+        if job.rows.iter().all(|row| row.point != point) {
+            return point;
+        }
+    }
+}
+
 /// Different points in random order; the ends of the range are drawn often.
 pub fn distinct_points(random: &mut Random, prime: u32, count: usize) -> Vec<u32> {
     let mut points: Vec<u32> = Vec::new();
@@ -230,10 +256,14 @@ pub fn distinct_points(random: &mut Random, prime: u32, count: usize) -> Vec<u32
 }
 
 /// The quotient of the unreduced polynomials at every point. Where both are zero, and at the poles,
-/// there is none: zeros stand there, or anything, or the reduced value.
+/// there is none: zeros stand there, or anything, or the reduced value. Silent rows stay silent.
 fn fill_values(random: &mut Random, job: &mut Job, fraction: &Fraction) {
     let field = Field::new(job.prime());
-    for row in &mut job.rows {
+    let silent = job.marked(Mark::Silent);
+    for (place, row) in job.rows.iter_mut().enumerate() {
+        if silent.contains(&place) {
+            continue;
+        }
         let below = fraction.denominator.value_at(row.point, field);
         let lost = fraction.common_factor.value_at(row.point, field) == 0 && !random.once_in(3);
         row.values = if below == 0 || lost {
@@ -265,37 +295,66 @@ pub fn spoil(
 ) -> Option<u32> {
     let prime = job.prime();
     let other = numerators_within(random, &job.numerator_bounds, prime);
-    let style = random.below(3);
+    let styles = match job.header {
+        HeaderForm::Flagged => &SpoilStyle::ALL[..],
+        _ => &SpoilStyle::ALL[..3],
+    };
+    let style = random.one_of(styles);
     loop {
         let word = wrong_rows(job, denominator, numerators);
         let count = word.count_ones() as usize;
         if count >= wrong_count {
             return (count == wrong_count).then_some(word);
         }
-        let right: Vec<usize> = (0..job.rows.len())
-            .filter(|row| word << row >> 31 == 0)
-            .collect();
-        let chosen = right[random.below(right.len())];
-        spoil_row(random, &mut job.rows[chosen], prime, style, &other);
+        let is_right = |row: &usize| word << row >> 31 == 0 && !job.is_marked(*row, Mark::Silent);
+        let right: Vec<usize> = (0..job.rows.len()).filter(is_right).collect();
+        let chosen = random.one_of(&right);
+        let style = match job.is_marked(chosen, Mark::Pole) {
+            true => SpoilStyle::AllValues,
+            false => style,
+        };
+        style.spoil(random, &mut job.rows[chosen], prime, &other);
     }
 }
 
-/// Changes one value of a right row, or all, or takes the values of other polynomials. The point is
-/// no pole, so any change makes the row wrong.
-fn spoil_row(random: &mut Random, row: &mut Row, prime: u32, style: usize, other: &[Polynomial]) {
-    let field = Field::new(prime);
-    let before = row.values.clone();
-    match style {
-        0 => {}
-        1 => row
-            .values
-            .iter_mut()
-            .for_each(|value| *value = random.residue(prime)),
-        _ => row.values = other.iter().map(|f| f.value_at(row.point, field)).collect(),
-    }
-    if row.values == before {
-        let output = random.below(row.values.len());
-        let added = random.between(1, prime as usize - 1) as u32;
-        row.values[output] = field.add(row.values[output], added);
+/// What is done to right rows.
+#[derive(Clone, Copy, PartialEq, Eq)]
+enum SpoilStyle {
+    OneValue,
+    AllValues,
+    /// They have the values of other polynomials.
+    OtherPolynomials,
+    /// They report a pole where there is none.
+    FalsePole,
+}
+
+impl SpoilStyle {
+    const ALL: [SpoilStyle; 4] = [
+        SpoilStyle::OneValue,
+        SpoilStyle::AllValues,
+        SpoilStyle::OtherPolynomials,
+        SpoilStyle::FalsePole,
+    ];
+
+    /// A row with values stands at no pole, so any change makes it wrong; at a pole any values do.
+    fn spoil(self, random: &mut Random, row: &mut Row, prime: u32, other: &[Polynomial]) {
+        let field = Field::new(prime);
+        let before = row.values.clone();
+        match self {
+            SpoilStyle::OneValue => {}
+            SpoilStyle::AllValues => row
+                .values
+                .iter_mut()
+                .for_each(|value| *value = random.residue(prime)),
+            SpoilStyle::OtherPolynomials => {
+                row.values = other.iter().map(|f| f.value_at(row.point, field)).collect();
+            }
+            SpoilStyle::FalsePole => row.put(Mark::Pole),
+        }
+        if row.values == before {
+            let output = random.below(row.values.len());
+            let added = random.between(1, prime as usize - 1) as u32;
+            row.values[output] = field.add(row.values[output], added);
+        }
     }
 }

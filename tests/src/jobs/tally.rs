@@ -1,8 +1,10 @@
 //! Counts of a run, with the floors below which it fails.
 
 use super::header_tally::HeaderTally;
+use super::mark_tally::MarkTally;
+use super::marked::Marks;
 use super::{Expected, GeneratedJob, OTHER_FAULTS};
-use crate::layout::{trimmed, Answer, HeaderForm, Job, MOST_ROWS, PRIMES};
+use crate::layout::{trimmed, Answer, Job, MOST_ROWS, PRIMES};
 use hanthuvelo::Report;
 use std::collections::BTreeMap;
 
@@ -28,6 +30,19 @@ pub enum Kind {
     DamagedAddedHeader,
     RandomBytes,
     BeyondOwnBound,
+    MarkedPoles,
+    MarkedOwnPoles,
+    MarkedPolesAboveErrors,
+    MarkedSilent,
+    MarkedPolesAndSilent,
+    PartlyMarked,
+    MixedMarks,
+    MarkUnderShortHeader,
+    MarkWithoutFlag,
+    MarkedPoint,
+    Refused12,
+    Refused12And6,
+    Refused12And7,
     Refused1,
     /// By paper 01 refused with 2; now with 1 or 11.
     SpareBit,
@@ -38,56 +53,83 @@ pub enum Kind {
     Refused7,
 }
 
+impl Kind {
+    pub fn of_marks(marks: Marks) -> Kind {
+        match marks {
+            Marks::Poles => Kind::MarkedPoles,
+            Marks::OwnPoles => Kind::MarkedOwnPoles,
+            Marks::PolesAboveErrors => Kind::MarkedPolesAboveErrors,
+            Marks::Silent => Kind::MarkedSilent,
+            Marks::PolesAndSilent => Kind::MarkedPolesAndSilent,
+        }
+    }
+}
+
 /// Each kind with its floor, in jobs out of a thousand.
-const KIND_FLOORS: [(Kind, usize); 26] = [
+const KIND_FLOORS: [(Kind, usize); 39] = [
     (Kind::NoErrors, 30),
     (Kind::FewerErrors, 150),
     (Kind::ExactErrors, 250),
-    (Kind::OneErrorTooMany, 100),
+    (Kind::OneErrorTooMany, 70),
     (Kind::Pole, 100),
-    (Kind::CommonFactor, 40),
-    (Kind::AllZero, 30),
-    (Kind::WholeField, 40),
-    (Kind::LooseBounds, 30),
+    (Kind::CommonFactor, 27),
+    (Kind::AllZero, 20),
+    (Kind::WholeField, 27),
+    (Kind::LooseBounds, 20),
     (Kind::ExactArea, 200),
     (Kind::LongArea, 200),
     (Kind::AreaShortByOne, 5),
     (Kind::TwoFaults, 20),
     (Kind::MoreRowsThanPrime, 5),
-    (Kind::RandomValues, 15),
-    (Kind::DamagedBytes, 15),
+    (Kind::RandomValues, 10),
+    (Kind::DamagedBytes, 10),
     (Kind::DamagedAddedHeader, 4),
-    (Kind::RandomBytes, 15),
-    (Kind::BeyondOwnBound, 30),
-    (Kind::Refused1, 15),
-    (Kind::SpareBit, 15),
-    (Kind::Refused3, 15),
-    (Kind::Refused4, 15),
-    (Kind::Refused5, 15),
-    (Kind::Refused6, 15),
-    (Kind::Refused7, 15),
+    (Kind::RandomBytes, 10),
+    (Kind::BeyondOwnBound, 20),
+    (Kind::MarkedPoles, 40),
+    (Kind::MarkedOwnPoles, 50),
+    (Kind::MarkedPolesAboveErrors, 30),
+    (Kind::MarkedSilent, 30),
+    (Kind::MarkedPolesAndSilent, 50),
+    (Kind::PartlyMarked, 7),
+    (Kind::MixedMarks, 7),
+    (Kind::MarkUnderShortHeader, 2),
+    (Kind::MarkWithoutFlag, 2),
+    (Kind::MarkedPoint, 7),
+    (Kind::Refused12, 20),
+    (Kind::Refused12And6, 5),
+    (Kind::Refused12And7, 5),
+    (Kind::Refused1, 10),
+    (Kind::SpareBit, 10),
+    (Kind::Refused3, 10),
+    (Kind::Refused4, 10),
+    (Kind::Refused5, 40),
+    (Kind::Refused6, 10),
+    (Kind::Refused7, 10),
 ];
 
 /// Floors of the outcomes, out of a thousand: answered, then each refusal of a job.
-const OUTCOME_FLOORS: [(u32, usize); 9] = [
+const OUTCOME_FLOORS: [(u32, usize); 10] = [
     (0, 500),
-    (1, 20),
-    (11, 50),
-    (3, 15),
-    (4, 15),
-    (5, 15),
-    (6, 15),
-    (7, 15),
+    (1, 15),
+    (11, 35),
+    (3, 10),
+    (4, 10),
+    (5, 40),
+    (12, 20),
+    (6, 10),
+    (7, 10),
     (8, 100),
 ];
 
 #[derive(Default)]
 pub struct Tally {
     jobs: usize,
-    kinds: [usize; KIND_FLOORS.len()],
+    kinds: Counts,
     /// By the number of the refusal, 0 for none.
-    outcomes: [usize; 12],
+    outcomes: [usize; 13],
     headers: HeaderTally,
+    marks: MarkTally,
     /// Answered, with a bound of the longer header above the degree of its f.
     loose_own_bound: usize,
     /// Answered with exactly E wrong rows, E not 0.
@@ -106,7 +148,7 @@ impl Tally {
     pub fn count(&mut self, job: &GeneratedJob, report: Report) {
         self.jobs += 1;
         for kind in &job.kinds {
-            self.kinds[*kind as usize] += 1;
+            self.kinds.add(&format!("{kind:?}"), true);
         }
         self.outcomes[report.refusal as usize] += 1;
         self.headers.count(&job.bytes, job.broken);
@@ -117,6 +159,7 @@ impl Tally {
         self.headers.count_sound(&read);
         if let Expected::Answered { bytes, .. } = &job.expected {
             self.loose_own_bound += usize::from(has_loose_bound(&read, bytes));
+            self.marks.count(&read, &Answer::unpack(bytes, &read));
         }
         let wrong = report.wrong as usize;
         self.primes[read.prime_code] += 1;
@@ -155,7 +198,7 @@ impl Tally {
     fn input_lines(&self) -> Vec<(String, usize, usize)> {
         let mut lines = Vec::new();
         for (kind, thousandths) in KIND_FLOORS {
-            let count = self.kinds[kind as usize];
+            let count = self.kinds.of(&format!("{kind:?}"));
             lines.push((format!("made as {kind:?}"), count, self.floor(thousandths)));
         }
         for (prime, &count) in PRIMES.iter().zip(&self.primes) {
@@ -174,7 +217,8 @@ impl Tally {
     /// All counts as text, and whether each reaches its floor.
     pub fn summary(&self) -> (String, bool) {
         let lines = self.outcome_lines().into_iter().chain(self.input_lines());
-        with_floors(lines.chain(self.headers.lines(&OTHER_FAULTS)))
+        let headers = self.headers.lines(&OTHER_FAULTS);
+        with_floors(lines.chain(headers).chain(self.marks.lines()))
     }
 }
 
@@ -182,7 +226,7 @@ impl Tally {
 fn has_loose_bound(job: &Job, answer: &[u8]) -> bool {
     let numerators = Answer::unpack(answer, job).numerators;
     let mut lists = numerators.iter();
-    job.header == HeaderForm::Longer && lists.any(|list| trimmed(list).len() < list.len())
+    job.header.is_longer() && lists.any(|list| trimmed(list).len() < list.len())
 }
 
 /// What became of a job, by the number of its refusal; with 0 what is said here.

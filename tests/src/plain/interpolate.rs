@@ -3,6 +3,18 @@
 use super::field::{multiply, multiply_add, subtract};
 use super::polynomial::{Polynomial, CAPACITY};
 
+/// The rows that ask something of an output.
+#[derive(Default)]
+pub struct Conditions {
+    /// How many rows ask for Φ(x) = z Ψ(x), with their points x and numbers z.
+    pub values: usize,
+    pub points: [u32; 31],
+    pub targets: [u32; 31],
+    /// How many ask for Ψ(x) = 0, with their points.
+    pub poles: usize,
+    pub pole_points: [u32; 31],
+}
+
 /// A numerator and a denominator that satisfy the rows so far, with the weight that bounds their
 /// degrees.
 #[derive(Clone, Copy)]
@@ -12,70 +24,83 @@ struct Pair {
     weight: usize,
 }
 
-/// (Φ, Ψ), not both zero, with Φ(x) = z Ψ(x) at every point, deg Φ ≤ `numerator_bound` and
-/// deg Ψ ≤ `denominator_bound`; the two bounds and 1 add up to the number of points.
+/// Both pairs, with how many coefficients of each polynomial can differ from zero: the loops follow the longest one, as the
+/// library's do.
+struct Pairs {
+    first: Pair,
+    second: Pair,
+    length: usize,
+}
+
+/// (Φ, Ψ), not both zero, as the conditions ask, with deg Φ ≤ `numerator_bound`; the bounds of the two and 1 add up to the
+/// number of conditions.
 pub fn interpolate<const PRIME: u32>(
-    points: &[u32],
-    targets: &[u32],
+    conditions: &Conditions,
     numerator_bound: usize,
-    denominator_bound: usize,
 ) -> (Polynomial, Polynomial) {
-    let zero = [0; CAPACITY];
-    let mut one = zero;
-    one[0] = 1;
-    let mut first = Pair {
-        numerator: one,
-        denominator: zero,
-        weight: denominator_bound,
-    };
-    let mut second = Pair {
-        numerator: zero,
-        denominator: one,
-        weight: numerator_bound,
-    };
-    // The loops over coefficients follow the longest polynomial, as the library's do.
-    let mut length = 1;
-    for (&point, &target) in points.iter().zip(targets) {
-        take_row::<PRIME>(&mut first, &mut second, point, target, length);
-        length += 1;
-        while first.is_zero_at(length - 1) && second.is_zero_at(length - 1) {
-            length -= 1;
-        }
+    let count = conditions.values + conditions.poles;
+    let mut pairs = Pairs::new(numerator_bound, count - 1 - numerator_bound);
+    for row in 0..conditions.values {
+        let (point, target) = (conditions.points[row], conditions.targets[row]);
+        pairs.take_row::<PRIME, false>(point, target);
     }
+    for &point in &conditions.pole_points[..conditions.poles] {
+        pairs.take_row::<PRIME, true>(point, 0);
+    }
+    let Pairs { first, second, .. } = pairs;
     let chosen = if first.weight <= second.weight {
         first
     } else {
         second
     };
-    let bound = points.len() + 1;
     (
-        Polynomial::new(chosen.numerator, bound),
-        Polynomial::new(chosen.denominator, bound),
+        Polynomial::new(chosen.numerator, count + 1),
+        Polynomial::new(chosen.denominator, count + 1),
     )
 }
 
-/// One row more; `length` coefficients of each polynomial can differ from zero before it.
-fn take_row<const PRIME: u32>(
-    first: &mut Pair,
-    second: &mut Pair,
-    point: u32,
-    target: u32,
-    length: usize,
-) {
-    let first_defect = first.defect::<PRIME>(point, target, length);
-    let second_defect = second.defect::<PRIME>(point, target, length);
-    if first_defect != 0 && second_defect != 0 {
-        if first.weight <= second.weight {
-            second.combine::<PRIME>(first_defect, first, second_defect, length);
+impl Pairs {
+    fn new(numerator_bound: usize, denominator_bound: usize) -> Pairs {
+        let zero = [0; CAPACITY];
+        let mut one = zero;
+        one[0] = 1;
+        Pairs {
+            first: Pair {
+                numerator: one,
+                denominator: zero,
+                weight: denominator_bound,
+            },
+            second: Pair {
+                numerator: zero,
+                denominator: one,
+                weight: numerator_bound,
+            },
+            length: 1,
+        }
+    }
+
+    /// One row more, which asks for Φ(x) = z Ψ(x), or for Ψ(x) = 0 where it is a pole.
+    fn take_row<const PRIME: u32, const IS_POLE: bool>(&mut self, point: u32, target: u32) {
+        let (first, second, length) = (&mut self.first, &mut self.second, self.length);
+        let first_defect = first.defect::<PRIME, IS_POLE>(point, target, length);
+        let second_defect = second.defect::<PRIME, IS_POLE>(point, target, length);
+        if first_defect != 0 && second_defect != 0 {
+            if first.weight <= second.weight {
+                second.combine::<PRIME>(first_defect, first, second_defect, length);
+                first.raise::<PRIME>(point, length);
+            } else {
+                first.combine::<PRIME>(second_defect, second, first_defect, length);
+                second.raise::<PRIME>(point, length);
+            }
+        } else if first_defect != 0 {
             first.raise::<PRIME>(point, length);
-        } else {
-            first.combine::<PRIME>(second_defect, second, first_defect, length);
+        } else if second_defect != 0 {
             second.raise::<PRIME>(point, length);
         }
-    } else if first_defect != 0 {
-        first.raise::<PRIME>(point, length);
-    } else if second_defect != 0 {
-        second.raise::<PRIME>(point, length);
+        self.length += 1;
+        while self.first.is_zero_at(self.length - 1) && self.second.is_zero_at(self.length - 1) {
+            self.length -= 1;
+        }
     }
 }
 
@@ -84,15 +109,23 @@ impl Pair {
         self.numerator[power] == 0 && self.denominator[power] == 0
     }
 
-    /// a(x) − z b(x), zero where the pair satisfies the row.
-    fn defect<const PRIME: u32>(&self, point: u32, target: u32, length: usize) -> u32 {
+    /// a(x) − z b(x), or b(x) for a pole: zero where the pair satisfies the row.
+    fn defect<const PRIME: u32, const IS_POLE: bool>(
+        &self,
+        point: u32,
+        target: u32,
+        length: usize,
+    ) -> u32 {
         let mut numerator = 0;
         let mut denominator = 0;
         for power in (0..length).rev() {
             numerator = multiply_add::<PRIME>(numerator, point, self.numerator[power]);
             denominator = multiply_add::<PRIME>(denominator, point, self.denominator[power]);
         }
-        subtract::<PRIME>(numerator, multiply::<PRIME>(target, denominator))
+        match IS_POLE {
+            true => denominator,
+            false => subtract::<PRIME>(numerator, multiply::<PRIME>(target, denominator)),
+        }
     }
 
     /// Times (u − x).

@@ -9,9 +9,9 @@ mod reader;
 
 pub use check::check;
 use hanthuvelo::Report;
-use interpolate::interpolate;
+use interpolate::{interpolate, Conditions};
 use polynomial::Polynomial;
-use reader::Problem;
+use reader::{Problem, Said};
 
 /// A common denominator and the numerators found so far, all within their bounds.
 struct Fraction {
@@ -51,24 +51,41 @@ fn solve<const PRIME: u32>(problem: &Problem) -> Option<Fraction> {
         denominator: Polynomial::one(),
         numerators: [Polynomial::zero(); 4],
     };
-    let denominator_bound = problem.denominator_bound + problem.error_bound;
-    let numerator_bound = problem.row_count - 1 - denominator_bound;
-    let mut targets = [0; 31];
+    let others = problem.denominator_bound + problem.error_bound;
+    let numerator_bound = problem.speaking() - 1 - others;
     for output in 0..problem.outputs {
-        for (row, target) in targets[..problem.row_count].iter_mut().enumerate() {
-            let factor = fraction.denominator.value_at::<PRIME>(problem.points[row]);
-            *target = field::multiply::<PRIME>(factor, problem.values[row][output]);
-        }
-        let (numerator, denominator) = interpolate::<PRIME>(
-            &problem.points[..problem.row_count],
-            &targets[..problem.row_count],
-            numerator_bound,
-            denominator_bound,
-        );
+        let conditions = conditions::<PRIME>(problem, &fraction.denominator, output);
+        let (numerator, denominator) = interpolate::<PRIME>(&conditions, numerator_bound);
         let (numerator, factor) = lowest_terms::<PRIME>(numerator, denominator)?;
         extend::<PRIME>(problem, &mut fraction, output, numerator, factor)?;
     }
     Some(fraction)
+}
+
+/// What the rows ask of an output's quotient over the denominator so far. A pole that is a root of it asks for nothing more.
+fn conditions<const PRIME: u32>(
+    problem: &Problem,
+    denominator: &Polynomial,
+    output: usize,
+) -> Conditions {
+    let mut conditions = Conditions::default();
+    for (row, &point) in problem.points[..problem.row_count].iter().enumerate() {
+        let factor = denominator.value_at::<PRIME>(point);
+        match problem.said[row] {
+            Said::Values => {
+                let target = field::multiply::<PRIME>(factor, problem.values[row][output]);
+                conditions.points[conditions.values] = point;
+                conditions.targets[conditions.values] = target;
+                conditions.values += 1;
+            }
+            Said::Pole if factor != 0 => {
+                conditions.pole_points[conditions.poles] = point;
+                conditions.poles += 1;
+            }
+            Said::Pole | Said::Nothing => {}
+        }
+    }
+    conditions
 }
 
 /// Divides by the greatest common divisor and makes the denominator monic; `None` where it is zero.
@@ -116,17 +133,24 @@ fn extend<const PRIME: u32>(
 fn wrong_rows<const PRIME: u32>(problem: &Problem, fraction: &Fraction) -> u32 {
     let mut word = 0;
     for row in 0..problem.row_count {
-        let point = problem.points[row];
-        let denominator = fraction.denominator.value_at::<PRIME>(point);
-        for output in 0..problem.outputs {
-            let numerator = fraction.numerators[output].value_at::<PRIME>(point);
-            if numerator != field::multiply::<PRIME>(denominator, problem.values[row][output]) {
-                word |= 0x8000_0000 >> row;
-                break;
-            }
+        if is_wrong::<PRIME>(problem, fraction, row) {
+            word |= 0x8000_0000 >> row;
         }
     }
     word
+}
+
+fn is_wrong<const PRIME: u32>(problem: &Problem, fraction: &Fraction, row: usize) -> bool {
+    let point = problem.points[row];
+    let denominator = fraction.denominator.value_at::<PRIME>(point);
+    match problem.said[row] {
+        Said::Nothing => false,
+        Said::Pole => denominator != 0,
+        Said::Values => (0..problem.outputs).any(|output| {
+            let numerator = fraction.numerators[output].value_at::<PRIME>(point);
+            numerator != field::multiply::<PRIME>(denominator, problem.values[row][output])
+        }),
+    }
 }
 
 fn write_answer(problem: &Problem, fraction: &Fraction, word: u32, area: &mut [u8]) -> usize {

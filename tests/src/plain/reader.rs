@@ -1,4 +1,7 @@
-//! The job bytes and the refusals 1, 11 and 3 to 7, into fixed arrays.
+//! The job bytes and the refusals 1, 11, 3, 4, 5, 12, 6 and 7, into fixed arrays.
+
+/// The first of the twelve flags of an added header, by which rows can be marked.
+const MARKS: u32 = 0x800;
 
 pub struct Refusal {
     pub number: u32,
@@ -29,6 +32,18 @@ pub struct Header {
     numerator_bounds: [usize; 4],
     denominator_bound: usize,
     error_bound: usize,
+    /// df + dg + 2E + 1.
+    needed_rows: usize,
+    /// Whether rows can be marked.
+    has_marks: bool,
+}
+
+/// What a row says at its point.
+#[derive(Clone, Copy, PartialEq, Eq)]
+pub enum Said {
+    Values,
+    Pole,
+    Nothing,
 }
 
 /// A well formed job.
@@ -40,7 +55,17 @@ pub struct Problem {
     pub denominator_bound: usize,
     pub error_bound: usize,
     pub points: [u32; 31],
+    pub said: [Said; 31],
+    /// Those of a row that says something else mean nothing.
     pub values: [[u32; 4]; 31],
+}
+
+impl Problem {
+    /// How many rows say something.
+    pub fn speaking(&self) -> usize {
+        let said = self.said[..self.row_count].iter();
+        said.filter(|said| **said != Said::Nothing).count()
+    }
 }
 
 /// The well formed job that `job` holds, or the refusal.
@@ -54,9 +79,11 @@ pub fn read(job: &[u8], area_length: usize) -> Result<Problem, Refusal> {
         denominator_bound: header.denominator_bound,
         error_bound: header.error_bound,
         points: [0; 31],
+        said: [Said::Values; 31],
         values: [[0; 4]; 31],
     };
-    read_rows(&mut problem, &job[header.length..])?;
+    read_rows(&mut problem, &header, &job[header.length..])?;
+    header.refuse_too_few_speaking(problem.speaking())?;
     refuse_repeated_point(&problem.points[..problem.row_count])?;
     let bounds = &problem.numerator_bounds[..problem.outputs];
     let numerators = problem.outputs + bounds.iter().sum::<usize>();
@@ -78,15 +105,36 @@ pub fn read_header(job: &[u8]) -> Result<Header, Refusal> {
         let Some(added) = job[3..].first_chunk() else {
             return Err(Refusal::new(1));
         };
-        header.numerator_bounds = added_bounds(*added, header.outputs, df)?;
+        let word = u32::from_be_bytes(*added);
+        header.has_marks = word & MARKS != 0;
+        header.numerator_bounds = added_bounds(word & !MARKS, header.outputs, df)?;
     }
     if job.len() != header.length + 2 * header.row_count * (1 + header.outputs) {
         return Err(Refusal::new(3));
     }
-    if header.row_count < df + header.denominator_bound + 2 * header.error_bound + 1 {
+    if header.row_count < header.needed_rows {
         return Err(Refusal::new(4));
     }
     Ok(header)
+}
+
+impl Header {
+    pub fn refuse_too_few_speaking(&self, speaking: usize) -> Result<(), Refusal> {
+        match speaking < self.needed_rows {
+            true => Err(Refusal::new(12)),
+            false => Ok(()),
+        }
+    }
+
+    /// The mark that these values of a row are, if they are one.
+    pub fn mark(&self, values: impl Iterator<Item = u32> + Clone) -> Option<Said> {
+        let are_all = |mark: u32| self.has_marks && values.clone().all(|value| value == mark);
+        match () {
+            () if are_all(65535) => Some(Said::Pole),
+            () if are_all(65534) => Some(Said::Nothing),
+            () => None,
+        }
+    }
 }
 
 /// The fields of the first three bytes, with df as the bound of every f.
@@ -95,6 +143,7 @@ fn header_fields(job: &[u8], df: usize) -> Header {
     let outputs = (first >> 4 & 3) + 1;
     let mut numerator_bounds = [0; 4];
     numerator_bounds[..outputs].fill(df);
+    let (denominator_bound, error_bound) = ((second & 3) << 3 | third >> 5, third >> 1 & 15);
     Header {
         prime: match first >> 6 {
             0 => 7,
@@ -106,15 +155,16 @@ fn header_fields(job: &[u8], df: usize) -> Header {
         row_count: (first & 15) << 1 | second >> 7,
         length: 3,
         numerator_bounds,
-        denominator_bound: (second & 3) << 3 | third >> 5,
-        error_bound: third >> 1 & 15,
+        denominator_bound,
+        error_bound,
+        needed_rows: df + denominator_bound + 2 * error_bound + 1,
+        has_marks: false,
     }
 }
 
-/// The bounds of the added header, or refusal 11: a bound without an output or a flag is set, a
+/// The bounds of the added header without its first flag, or refusal 11: a bound without an output or a flag is set, a
 /// bound is above df, or none is as large.
-fn added_bounds(added: [u8; 4], outputs: usize, df: usize) -> Result<[usize; 4], Refusal> {
-    let word = u32::from_be_bytes(added);
+fn added_bounds(word: u32, outputs: usize, df: usize) -> Result<[usize; 4], Refusal> {
     let bounds = [0, 5, 10, 15].map(|before| (word << before >> 27) as usize);
     let has_surplus = word << (5 * outputs) != 0;
     let existing = &bounds[..outputs];
@@ -124,8 +174,8 @@ fn added_bounds(added: [u8; 4], outputs: usize, df: usize) -> Result<[usize; 4],
     Ok(bounds)
 }
 
-/// Fills in the rows; refuses the first one with a number of p or more.
-fn read_rows(problem: &mut Problem, rows: &[u8]) -> Result<(), Refusal> {
+/// Fills in the rows; refuses the first one with a point of p or more, or such a value where the row is not marked.
+fn read_rows(problem: &mut Problem, header: &Header, rows: &[u8]) -> Result<(), Refusal> {
     let row_length = 2 * (1 + problem.outputs);
     for row in 0..problem.row_count {
         let stretch = &rows[row * row_length..(row + 1) * row_length];
@@ -139,7 +189,9 @@ fn read_rows(problem: &mut Problem, rows: &[u8]) -> Result<(), Refusal> {
             largest = largest.max(value);
         }
         if largest >= problem.prime {
-            return Err(Refusal::of_row(5, row));
+            let values = problem.values[row][..problem.outputs].iter().copied();
+            let mark = header.mark(values).filter(|_| number(0) < problem.prime);
+            problem.said[row] = mark.ok_or(Refusal::of_row(5, row))?;
         }
     }
     Ok(())

@@ -1,9 +1,10 @@
 //! The equations of source document 001, (14), with one value for each output in a row:
 //! Φi(x) = yi Ψ(x) for every row and output, deg Φi ≤ dfi + E with the bound dfi of fi, deg Ψ ≤ dg + E.
+//! A row that reports a pole asks for Ψ(x) = 0, once for all outputs; a silent one asks for nothing.
 
 use super::field::Field;
 use super::polynomial::Polynomial;
-use super::reader::Problem;
+use super::reader::{Problem, Row, Said};
 
 type Matrix = Vec<Vec<u32>>;
 
@@ -30,27 +31,46 @@ fn denominator_width(problem: &Problem) -> usize {
     problem.denominator_bound + problem.error_bound + 1
 }
 
-/// One line for each row and output; the columns are the coefficients of Φ1 .. Φn and then of Ψ.
+/// One line for each row and output, or one for a row that reports a pole; the columns are the coefficients of Φ1 .. Φn and
+/// then of Ψ.
 fn matrix(field: Field, problem: &Problem) -> Matrix {
+    problem
+        .rows
+        .iter()
+        .flat_map(|row| lines_of(field, problem, row))
+        .collect()
+}
+
+fn lines_of(field: Field, problem: &Problem, row: &Row) -> Matrix {
     let denominator_start: usize = numerator_widths(problem).sum();
-    let mut lines = Vec::new();
-    let mut start = 0;
-    for (output, width) in numerator_widths(problem).enumerate() {
-        for row in &problem.rows {
-            let mut line = vec![0; denominator_start + denominator_width(problem)];
-            for power in 0..width {
-                line[start + power] = field.power(row.point, power as u32);
-            }
-            let negated = field.subtract(0, row.values[output]);
-            for power in 0..denominator_width(problem) {
-                let product = field.multiply(negated, field.power(row.point, power as u32));
-                line[denominator_start + power] = product;
-            }
-            lines.push(line);
+    let blank = vec![0; denominator_start + denominator_width(problem)];
+    // Φ begins at `start`, and Ψ has the factor 1 or − yi.
+    let line = |start: usize, width: usize, factor: u32| {
+        let mut line = blank.clone();
+        for power in 0..width {
+            line[start + power] = field.power(row.point, power as u32);
         }
-        start += width;
+        for power in 0..denominator_width(problem) {
+            let product = field.multiply(factor, field.power(row.point, power as u32));
+            line[denominator_start + power] = product;
+        }
+        line
+    };
+    match &row.said {
+        Said::Nothing => Vec::new(),
+        Said::Pole => vec![line(0, 0, 1)],
+        Said::Values(values) => {
+            let mut start = 0;
+            let of_output = |(width, &value): (usize, &u32)| {
+                start += width;
+                line(start - width, width, field.subtract(0, value))
+            };
+            numerator_widths(problem)
+                .zip(values)
+                .map(of_output)
+                .collect()
+        }
     }
-    lines
 }
 
 /// Gaussian elimination up to the first column without a pivot: every column before it has one, so

@@ -1,4 +1,4 @@
-//! The second judge: items 3 and 5 of paper 02, written from these alone. It recovers the job, which the
+//! The second judge: items 3, 5 and 6 of paper 02, written from these alone. It recovers the job, which the
 //! library's judge must not do, and compares.
 
 use super::{answer_bytes, reader, solve};

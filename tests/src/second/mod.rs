@@ -21,7 +21,7 @@ pub use field::Field;
 use hanthuvelo::Report;
 pub use judge::judge;
 use polynomial::Polynomial;
-use reader::{Problem, Row};
+use reader::{Problem, Row, Said};
 pub use reciprocal::reciprocal;
 pub use text::printed;
 pub use trial::{next_word, trial, trial_job, TrialJob};
@@ -54,9 +54,10 @@ pub fn recover(job: &[u8], area: &mut [u8]) -> Report {
 
 /// The answer of a well formed job, or `None` where there is none.
 ///
-/// One kernel vector (Φ, Ψ) decides. Suppose (f, g) is an answer. At each right row x,
-/// g(x) Φi(x) = g(x) yi Ψ(x) = fi(x) Ψ(x), so g Φi − fi Ψ vanishes at L − E ≥ df + dg + E + 1
-/// points at least. Its degree is at most dfi + dg + E with the bound dfi of fi, and df is the
+/// One kernel vector (Φ, Ψ) decides. Suppose (f, g) is an answer. At each right row x with values,
+/// g(x) Φi(x) = g(x) yi Ψ(x) = fi(x) Ψ(x), and at each right row that reports a pole g(x) = Ψ(x) = 0. So
+/// g Φi − fi Ψ vanishes at S − E ≥ df + dg + E + 1 points at least, S being the number of rows that
+/// speak. Its degree is at most dfi + dg + E with the bound dfi of fi, and df is the
 /// largest of these, so it is zero: g Φi = fi Ψ for every i.
 /// Ψ = 0 would make every Φi zero too, and the vector is not zero. So Φ/Ψ = f/g, and both have the
 /// same reduced form, which is (f, g). A reduced form that fails a test below therefore shows that
@@ -69,7 +70,7 @@ fn solve(problem: &Problem) -> Option<Solution> {
     if !within_bounds(problem, &candidate) {
         return None;
     }
-    let is_wrong = |row: &Row| !is_right(field, &candidate, row);
+    let is_wrong = |row: &Row| is_wrong(field, &candidate, row);
     let wrong_rows: Vec<usize> = (0..problem.rows.len())
         .filter(|&index| is_wrong(&problem.rows[index]))
         .collect();
@@ -114,14 +115,19 @@ fn within_bounds(problem: &Problem, candidate: &Candidate) -> bool {
             .all(|(numerator, &bound)| numerator.has_degree_at_most(bound))
 }
 
-/// Paper 01's "right": fi(x) = g(x) yi for every output.
-fn is_right(field: Field, candidate: &Candidate, row: &Row) -> bool {
+/// Not paper 01's "right", fi(x) = g(x) yi for every output; of a row that reports a pole, g(x) is not 0. A row that says
+/// nothing is never wrong.
+fn is_wrong(field: Field, candidate: &Candidate, row: &Row) -> bool {
     let denominator = candidate.denominator.value_at(row.point, field);
-    candidate
-        .numerators
-        .iter()
-        .zip(&row.values)
-        .all(|(f, &value)| f.value_at(row.point, field) == field.multiply(denominator, value))
+    match &row.said {
+        Said::Nothing => false,
+        Said::Pole => denominator != 0,
+        Said::Values(values) => {
+            candidate.numerators.iter().zip(values).any(|(f, &value)| {
+                f.value_at(row.point, field) != field.multiply(denominator, value)
+            })
+        }
+    }
 }
 
 fn answer_bytes(problem: &Problem, solution: &Solution) -> Vec<u8> {

@@ -1,4 +1,5 @@
-//! The job bytes and the refusals before 8, from paper 01 with the longer header of paper 02: 1, 11, 3 to 7, in this order.
+//! The job bytes and the refusals before 8, from paper 01 with items 5 and 6 of paper 02: 1, 11, 3, 4, 5, 12, 6 and 7, in this
+//! order.
 
 /// The primes by their codes.
 pub const PRIMES: [u32; 4] = [7, 97, 257, 65521];
@@ -8,9 +9,28 @@ pub struct Refusal {
     pub row: u32,
 }
 
+/// What every value of a row is that reports a pole, and of one that is silent.
+const POLE: u32 = 65535;
+const SILENT: u32 = 65534;
+
 pub struct Row {
     pub point: u32,
-    pub values: Vec<u32>,
+    pub said: Said,
+}
+
+/// What a row says at its point.
+pub enum Said {
+    /// One value for each output.
+    Values(Vec<u32>),
+    /// That g is 0 there.
+    Pole,
+    Nothing,
+}
+
+impl Row {
+    fn speaks(&self) -> bool {
+        !matches!(self.said, Said::Nothing)
+    }
 }
 
 /// A well formed job.
@@ -36,6 +56,8 @@ pub struct Header {
     pub numerator_bounds: Vec<usize>,
     pub denominator_bound: usize,
     error_bound: usize,
+    /// Whether the first flag is set.
+    has_marks: bool,
 }
 
 impl Header {
@@ -64,16 +86,19 @@ pub fn read(bytes: &[u8], area_length: usize) -> Result<Problem, Refusal> {
 /// The job that `bytes` hold, or the first refusal that applies before 7; no area is lent.
 pub fn read_form(bytes: &[u8]) -> Result<Problem, Refusal> {
     let header = read_header(bytes)?;
+    let needed = header.needed_rows();
     refuse_if(bytes.len() != header.job_length(), 3, 0)?;
-    refuse_if(header.row_count < header.needed_rows(), 4, 0)?;
+    refuse_if(header.row_count < needed, 4, 0)?;
     let problem = Problem {
         prime: header.prime(),
-        rows: read_rows(&bytes[header.length..], header.outputs),
+        rows: read_rows(&header, &bytes[header.length..]),
         numerator_bounds: header.numerator_bounds,
         denominator_bound: header.denominator_bound,
         error_bound: header.error_bound,
     };
     refuse_row(first_row_out_of_range(&problem), 5)?;
+    let speaking = problem.rows.iter().filter(|row| row.speaks()).count();
+    refuse_if(speaking < needed, 12, 0)?;
     refuse_row(first_row_with_used_point(&problem), 6)?;
     Ok(problem)
 }
@@ -127,6 +152,7 @@ pub fn read_header(bytes: &[u8]) -> Result<Header, Refusal> {
         numerator_bounds: vec![numerator_bound; outputs],
         denominator_bound,
         error_bound,
+        has_marks: false,
     };
     if spare == 1 {
         refuse_if(bytes.len() < 7, 1, 0)?;
@@ -138,33 +164,45 @@ pub fn read_header(bytes: &[u8]) -> Result<Header, Refusal> {
 /// The added header's bounds take the place of df; refused with 11 where it breaks a rule.
 fn read_added(header: &mut Header, added: [u8; 4]) -> Result<(), Refusal> {
     let mut rest = LowEnd(u32::from_be_bytes(added) as usize);
-    let flags = rest.take(12);
+    let other_flags = rest.take(11);
+    header.has_marks = rest.take(1) == 1;
     let mut bounds = [0; 4].map(|_: usize| rest.take(5));
     bounds.reverse();
     let (existing, absent) = bounds.split_at(header.outputs);
     let is_largest = existing.iter().max() == Some(&header.numerator_bound);
-    let is_sound = is_largest && absent.iter().all(|&bound| bound == 0) && flags == 0;
+    let is_sound = is_largest && absent.iter().all(|&bound| bound == 0) && other_flags == 0;
     refuse_if(!is_sound, 11, 0)?;
     header.length = 7;
     header.numerator_bounds = existing.to_vec();
     Ok(())
 }
 
-fn read_rows(bytes: &[u8], outputs: usize) -> Vec<Row> {
+fn read_rows(header: &Header, bytes: &[u8]) -> Vec<Row> {
     let number = |pair: &[u8]| u32::from(u16::from_be_bytes([pair[0], pair[1]]));
-    let row = |stretch: &[u8]| Row {
-        point: number(&stretch[..2]),
-        values: stretch[2..].chunks(2).map(number).collect(),
+    let row = |stretch: &[u8]| {
+        let values: Vec<u32> = stretch[2..].chunks(2).map(number).collect();
+        let are_all = |mark: u32| header.has_marks && values.iter().all(|&value| value == mark);
+        Row {
+            point: number(&stretch[..2]),
+            said: match () {
+                () if are_all(POLE) => Said::Pole,
+                () if are_all(SILENT) => Said::Nothing,
+                () => Said::Values(values),
+            },
+        }
     };
-    bytes.chunks(2 * (1 + outputs)).map(row).collect()
+    bytes.chunks(2 * (1 + header.outputs)).map(row).collect()
 }
 
+/// A row that mixes marks, or marks with values, is one of values, of which a mark is too large.
 fn first_row_out_of_range(problem: &Problem) -> Option<usize> {
     let too_large = |number: &u32| *number >= problem.prime;
-    problem
-        .rows
-        .iter()
-        .position(|row| too_large(&row.point) || row.values.iter().any(too_large))
+    let has_large_value = |said: &Said| match said {
+        Said::Values(values) => values.iter().any(too_large),
+        Said::Pole | Said::Nothing => false,
+    };
+    let mut rows = problem.rows.iter();
+    rows.position(|row| too_large(&row.point) || has_large_value(&row.said))
 }
 
 fn first_row_with_used_point(problem: &Problem) -> Option<usize> {

@@ -1,4 +1,5 @@
-//! The second writer of trial jobs: items 1 and 5 of paper 02, written from these alone.
+//! The second writer of trial jobs: items 1 and 5 of paper 02, written from these alone. The
+//! flag of item 6 stands in the header and changes no row.
 
 use super::reader::{coefficient_count, read_header, refuse_if, Header, Refusal};
 use super::reduced::is_reduced;

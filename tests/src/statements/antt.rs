@@ -44,6 +44,16 @@ pub fn declared_name(line: &str) -> Option<String> {
     signature.then(|| first.to_string())
 }
 
+/// Whether the item is a data type that has this case.
+pub fn has_case(item: &Item, word: &str) -> bool {
+    let mut lines = item.text.lines();
+    let data = lines.next().is_some_and(|line| {
+        let line = line.strip_prefix("pub ").unwrap_or(line);
+        line.starts_with("data ")
+    });
+    data && lines.any(|line| line.split_whitespace().next() == Some(word))
+}
+
 /// The items of a file: a signature and everything up to the next one, without remarks and empty lines.
 pub fn items(source: &str) -> Vec<Item> {
     let mut found: Vec<Item> = Vec::new();

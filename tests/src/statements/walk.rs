@@ -158,7 +158,10 @@ impl Walk {
 
     fn meaning(&mut self, path: &str, word: &str) -> Meaning {
         let file = &self.files[path];
-        let own = file.items.iter().find(|item| names(&item.name, word));
+        let own = file
+            .items
+            .iter()
+            .find(|item| names(&item.name, word) || antt::has_case(item, word));
         if let (Some(item), false) = (own, path.ends_with(".rt")) {
             return Meaning::Definition((path.to_string(), item.name.clone()));
         }

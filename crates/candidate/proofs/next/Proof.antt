@@ -1,68 +1,38 @@
 use mathlib.Core.Path.{_≡_, sym, ap, _∙_}
-use mathlib.Core.List.{List}
-use Prim.Native.Nat.{ℕ, _-_}
-use Rattle.field.specs.Primes.{modulusOf}
-use Rattle.pairs.specs.declared.Pair.{Pair}
-use Rattle.pairs.specs.Pairs.{solutionOf}
-use Rattle.format.proofs.Sizes.{slack-low}
-use Rattle.extension.proofs.Fittings.{fitting-unsolvable}
-use Rattle.candidate.specs.Candidates.{slackOf, withFraction, nextOf}
-use Rattle.candidate.proofs.CandidateLaws.{fraction-none, fraction-some}
 use native.Mathlib.Omega.{arith}
 use borrow.Author.Needs.{needs}
+use Rattle.pairs.specs.declared.Pair.{Pair}
+use Rattle.extension.proofs.Fittings.{fitting-unsolvable}
+use Rattle.candidate.specs.Candidates.{withFraction, nextOf}
+use Rattle.candidate.proofs.CandidateLaws.{fraction-none, fraction-some}
 use Rattle.candidate.proofs.next.Statement.{statement}
 use Rattle.candidate.proofs.next.Tie as tie
 
 -- the pair that was computed is the one of `nextOf`
-next-is : (Q : tie.After-solution) → let g = Q .before .before .before .before .before .before .args in
-    withFraction (g .b) (g .i) (Q .solution .result) (g .c) ≡ nextOf (g .b) (g .points .now) (g .values .now) (g .i) (g .c)
+next-is : (Q : tie.After-pair) → let g = Q .before .before .args in
+    withFraction (g .b) (g .i) (Q .pair .result) (g .c) ≡ nextOf (g .b) (g .speaking) (g .points .now) (g .weights .now) (g .values .now) (g .i) (g .c)
 unfolding nextOf
-next-is Q =
-    let S = Q .before .before .before .before .before .before in
-    let g = S .args in
-    let solved : List ℕ → Pair = λ z. solutionOf (modulusOf (g .b .prime)) (g .points .now) z (g .b .rows - 1 - slackOf (g .b)) (slackOf (g .b)) (g .b .rows) in
-    let column = Q .before .before .before .column .ensures .0 (g .points .now) (S .pre .2) in
-    ap (λ (s : Pair). withFraction (g .b) (g .i) s (g .c)) (Q .solution .ensures .0 ∙ ap solved column)
-
-column-requires : tie.Need-column-requires
-column-requires c κs =
-    let S = c .before .before in
-    (S .pre .0, S .pre .4, S .pre .3 .denominator, record { points = S .args .points .now; is = S .pre .2 })
-
-solution-requires : tie.Need-solution-requires
-solution-requires c κs =
-    let S = c .before .before .before .before .before in
-    let low = slack-low (S .pre .0) in (
-      record {
-        few = S .pre .0 .rows;
-        low-a = omega (arith, low, S .pre .0 .rows);
-        low-b = omega (arith, low, S .pre .0 .rows);
-        points-below = S .pre .1 .points-below;
-        z-below = c .before .before .column .ensures .1;
-      },
-      S .pre .2,
-    )
+next-is Q = let g = Q .before .before .args in ap (λ (s : Pair). withFraction (g .b) (g .i) s (g .c)) (Q .pair .ensures .0)
 
 returns : tie.Need-returns
 returns c =
     let A = c .before .before in
     let Q = A .before .before .before in
-    let S = Q .before .before .before .before .before .before in
-    let g = S .args in (
-      c .unsolvable .ensures ∙ fraction-none (g .b) (g .i) (Q .solution .result) (g .c) (sym (A .length .ensures .0) ∙ c .before .if1 .taken) ∙ next-is Q,
+    let g = Q .before .before .args in (
+      c .unsolvable .ensures ∙ fraction-none (g .b) (g .i) (Q .pair .result) (g .c) (sym (A .length .ensures .0) ∙ c .before .if1 .taken) ∙ next-is Q,
       rw (c .unsolvable .ensures) (fitting-unsolvable (g .b)),
     )
 
 add-extended : tie.Need-add-extended
 add-extended c =
-    let S = c .before .before .before .before .before .before .before .before .before .before .before .before .before in
+    let S = c .before .before .before .before .before .before .before .before .before in
     omega (arith, S .pre .0 .rows)
 
 extended-requires : tie.Need-extended-requires
 extended-requires c κs =
     let T = c .before .before in
     let Q = T .before .before .before .before .before in
-    let S = Q .before .before .before .before .before .before in
+    let S = Q .before .before in
     let few = S .pre .0 .rows in
     let e = T .lowest-terms .ensures in
     (S .pre .0, S .pre .3, S .pre .4, omega arith, e .1, e .3)
@@ -72,10 +42,9 @@ returns-2 c =
     let T = c .before .before .before in
     let A = T .before .before in
     let Q = A .before .before .before in
-    let S = Q .before .before .before .before .before .before in
-    let g = S .args in (
+    let g = Q .before .before .args in (
       c .extended .ensures .0
-          ∙ fraction-some (g .b) (g .i) (Q .solution .result) (g .c) (λ z. T .before .if1 .left (A .length .ensures .0 ∙ z))
+          ∙ fraction-some (g .b) (g .i) (Q .pair .result) (g .c) (λ z. T .before .if1 .left (A .length .ensures .0 ∙ z))
           (T .lowest-terms .ensures .0) (T .lowest-terms .ensures .2)
           ∙ next-is Q,
       c .extended .ensures .1,
@@ -85,11 +54,7 @@ pub next-spec : {M : Type 1} → statement M
 next-spec =
     tie.close
     (tie.spec
-    (λ c. omega (arith, slack-low (c .before .before .pre .0)))
-    column-requires
-    (λ c. omega (arith, slack-low (c .before .before .before .before .before .pre .0)))
-    (λ c. omega (arith, slack-low (c .before .before .before .before .before .pre .0)))
-    solution-requires
+    (λ c κs. search needs)
     (λ c. search needs)
     (λ c κs. search needs)
     (λ c κs. search needs)

@@ -13,11 +13,11 @@ use Rattle.column.proofs.column.Statement.{statement}
 use Rattle.column.proofs.column.Tie as tie
 
 abbrev Inv-loop : tie.InvT-loop
-Inv-loop xs values i prime rows gs r₀ l₀ r l =
-    (l ≤ rows) × Filled 32 (λ k. at gs k * at values (k * 4 + i) % modulusOf prime) (λ k. 0) l (r .z)
+Inv-loop xs weights values i prime rows gs z₀ l₀ z l =
+    (l ≤ rows) × Filled 32 (λ k. at gs k * at values (k * 4 + i) % modulusOf prime) (λ k. 0) l z
 
 abbrev μ-loop : tie.MeasureT-loop
-μ-loop xs values i prime rows gs r₀ l₀ r l = rows - l
+μ-loop xs weights values i prime rows gs z₀ l₀ z l = rows - l
 
 values-requires : tie.Need-values-requires Inv-loop μ-loop
 values-requires c κs =
@@ -35,13 +35,14 @@ loop-again c =
 returns : tie.Need-returns Inv-loop μ-loop
 unfolding columnOf
 returns c =
-    let L = c .before in
+    let L = c .before .before .before in
     let A = L .before .before in
     let S = A .before .before in
     let all : L .loop .l ≡ S .args .b .rows = omega arith in
     let stored = rw all at (L .loop .inv .1) in (
       λ points h. column-all _ _ points _ _ _ (omega arith) (A .values .ensures points h) stored,
       filled-below stored (λ k. residue-below (S .args .b .prime) _) (λ k. modulus-positive (S .args .b .prime)),
+      c .active-rows .ensures,
     )
 
 pub column-spec : {M : Type 1} → statement M
@@ -66,4 +67,5 @@ column-spec =
     (λ c. omega arith)
     (λ c. omega arith)
     loop-again
+    (λ c κs. omega (arith, c .before .before .before .before .before .before .pre .0 .rows))
     returns)

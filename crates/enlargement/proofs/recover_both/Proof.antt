@@ -1,5 +1,5 @@
 use Rattle.enlargement.proofs.Exactly.{answered-exactly}
-use Rattle.enlargement.proofs.Rule.{enlargement}
+use Rattle.enlargement.proofs.Rule.{enlargement, enlargement-whole}
 use borrow.Author.Needs.{needs}
 use Rattle.enlargement.proofs.recover_both.Statement.{statement}
 use Rattle.enlargement.proofs.recover_both.Tie as tie
@@ -26,6 +26,7 @@ returns c =
       first-answered = answered-exactly _ _ _ _ (one .ensures);
       second-answered = answered-exactly _ _ _ _ (two .ensures);
       enlargement = enlargement (one .ensures) (two .ensures);
+      enlargement-whole = enlargement-whole (one .ensures) (two .ensures);
     }
 
 pub recover-both-spec : {M : Type 1} → statement M

@@ -10,7 +10,8 @@ use Rattle.format.specs.declared.Outcome.{Outcome}
 use Rattle.format.specs.declared.Outcome.the-variants.{Accepted}
 use Rattle.header.specs.Header.{headerOf}
 use Rattle.header.proofs.Fields.{narrow-header}
-use Rattle.job.specs.Form.{headerOutcomeOf, rowTests, formOutcomeOf}
+use Rattle.job.specs.Refusals.{rowTests}
+use Rattle.job.specs.Form.{headerOutcomeOf, formOutcomeOf}
 use Rattle.job.proofs.HeaderChecks.{afterHeader, first-by-header, header-passed, refused-first}
 use Rattle.form_check.proofs.check.Statement.{statement}
 use Rattle.form_check.proofs.check.Tie as tie

@@ -1,70 +1,57 @@
 use borrow.Author.Needs.{needs}
-use Prim.Native.Nat.{ℕ, _-_}
+use Prim.Native.Nat.{ℕ}
 use mathlib.Core.List.{List}
-use mathlib.Core.Path.{_≡_, refl, sym, ap, _∙_}
-use native.Mathlib.Omega.{arith}
+use mathlib.Core.Path.{_≡_, sym, ap, _∙_}
 use denote.Ref.{now}
-use lib.ListN.{getD, replicate}
-use Rattle.lists.proofs.Filling.{Filled, filled-from, filled-more}
+use Rattle.header.specs.Header.{boundsOf}
 use Rattle.job.specs.Refusals.{outOfRange}
-use Rattle.row_search.proofs.FirstBelow.{Searching, search-start, search-next, search-found, search-end, at-not-nothing}
-use Rattle.rows.specs.declared.Row.{Row}
-use Rattle.rows.specs.Rows.{jobPoint}
-use Rattle.rows.specs.Steps.{rowAt}
-use Rattle.form_check.proofs.RangeTests.{row-test}
+use Rattle.row_search.specs.Search.{firstBelow}
+use Rattle.form_check.specs.Steps.{numberTooLarge, Scanned}
+use Rattle.form_check.proofs.RangeTests.{scanned-below, all-speak, scanned-without}
 use Rattle.form_check.proofs.scan_rows.Statement.{statement}
 use Rattle.form_check.proofs.scan_rows.Tie as tie
 
-abbrev Inv-loop : tie.InvT-loop
-Inv-loop job start rows outputs p points₀ r₀ points r = Searching (outOfRange job) rows r × Filled 32 (jobPoint job) (λ k. getD (replicate 32 65536) k 0) r points
+scan-marked-requires : tie.Need-scan-marked-requires
+scan-marked-requires c κs =
+    let taken = c .before .before .before in
+    let pre = taken .before .before .before .pre in
+    (pre .0, (pre .1 .0, pre .1 .1, pre .1 .2, sym (taken .if1 .taken) ∙ pre .1 .3, pre .1 .4))
 
-abbrev μ-loop : tie.MeasureT-loop
-μ-loop job start rows outputs p points₀ r₀ points r = rows - r
+-- the pass over the numbers
+module _ (c : tie.After-scan-numbers) where
+  abbrev start : tie.Start
+  start = c .before .before
 
-loop-holds : tie.Need-loop-holds Inv-loop μ-loop
-loop-holds c = (search-start _ _, filled-from 32 _ 0 _ refl (λ j l. absurd (omega arith)))
+  abbrev s : List ℕ
+  s = now (start .args .job)
 
-abbrev bytes : tie.At-loop Inv-loop μ-loop → List ℕ
-bytes c = now (c .before .before .args .job)
+  found : c .scan-numbers .result .found ≡ firstBelow (boundsOf s .rows) (numberTooLarge s)
+  found = c .scan-numbers .ensures .0 ∙ ap (λ n. firstBelow n (numberTooLarge s)) (start .pre .1 .1)
 
--- what the row that was read says of test 5
-test : (c : tie.After-is-out-of-range Inv-loop μ-loop) → let a = c .before .before .before in c .is-out-of-range .result ≡ outOfRange (bytes a) (a .loop .r)
-test c =
-    let a = c .before .before .before in
-    c .is-out-of-range .ensures ∙ rw (a .before .before .pre .1 .3) (row-test (bytes a) (a .loop .r) (c .before .row-at .ensures))
+  -- is as good as one by the marks, if it found the same row
+  scanned : c .scan-numbers .result .found ≡ firstBelow (boundsOf s .rows) (outOfRange s) → Scanned s (c .scan-numbers .result)
+  scanned same =
+      let rows = start .pre .1 .1 in
+      record {
+        found = same;
+        points = λ none r l. c .scan-numbers .ensures .1 none r (rw rows l);
+        speaking = λ none. c .scan-numbers .ensures .2 ∙ rows ∙ all-speak s (sym found ∙ none);
+      }
 
-returns : tie.Need-returns Inv-loop μ-loop
-returns c =
-    let a = c .before .before .before .before in
-    (search-found _ (a .loop .inv .0) (omega arith) (sym (test (c .before)) ∙ c .if1 .taken), λ e. absurd (at-not-nothing e))
+returns-2 : tie.Need-returns-2
+returns-2 c = let a = c .before .before .before in scanned a (scanned-below (s a) (found a) (c .enum-told .given .1))
 
-loop-again : tie.Need-loop-again Inv-loop μ-loop
-unfolding rowAt
-loop-again c =
-    let a = c .before .before .before .before in (
-      search-next _ (a .loop .inv .0) (omega arith) (sym (test (c .before)) ∙ c .if1 .left),
-      filled-more (a .loop .inv .1) _ (omega arith) (ap (λ (x : Row). x .point) (c .before .before .row-at .ensures)),
-    )
-
-returns-2 : tie.Need-returns-2 Inv-loop μ-loop
-returns-2 c =
-    let a = c .before in
-    (search-end _ (a .loop .inv .0) (omega arith), λ e r l. a .loop .inv .1 .done r (omega arith))
+returns-3 : tie.Need-returns-3
+returns-3 c = let a = c .before in scanned a (scanned-without (s a) (found a) (sym (start a .pre .1 .3) ∙ c .if1 .left))
 
 pub scan-rows-spec : {M : Type 1} → statement M
 scan-rows-spec =
     tie.close
     (tie.spec
-    Inv-loop
-    μ-loop
-    loop-holds
     (λ c κs. search needs)
     (λ c. search needs)
+    scan-marked-requires
+    (λ c. c .scan-marked .ensures)
     (λ c. search needs)
-    (λ c κs. search needs)
-    (λ c. search needs)
-    returns
-    (λ c. search needs)
-    (λ c. search needs)
-    loop-again
-    returns-2)
+    returns-2
+    returns-3)

@@ -10,39 +10,42 @@ use Rattle.lanes_meaning.proofs.Meaning.{constants-are, inverses-are}
 use Rattle.evaluation.proofs.Steps.{at-row, narrow-forms}
 use Rattle.pair_step.specs.Held.{PairHeld, Kept, pairOf, pairsOf}
 use Rattle.pair_step.proofs.Arrays.{held-mono}
-use Rattle.pair_step.proofs.Following.{start-is, start-held, start-kept, ones-narrow, kept-step, reached-more}
+use Rattle.pair_step.proofs.Following.{start-is, start-held, start-kept, kept-step, reached-more}
 use borrow.Author.Needs.{needs}
 use native.Mathlib.Omega.{arith}
 use Rattle.interpolation.proofs.after_rows.Statement.{statement}
 use Rattle.interpolation.proofs.after_rows.Tie as tie
 
 abbrev Inv-loop : tie.InvT-loop
-Inv-loop q points xs z rows a0₀ b0₀ a1₀ b1₀ p ps v vs d0₀ d1₀ s₀ k₀ a0 b0 a1 b1 d0 d1 s k =
-    (k ≤ rows) × Reached (modulusOf q) points z (s₀ .second .e) (s₀ .first .e) k (k + 1) (pairsOf (pairOf a0 b0 (s .first .e)) (pairOf a1 b1 (s .second .e)))
+Inv-loop q points xs weights z rows a0₀ b0₀ a1₀ b1₀ p ps v vs d0₀ d1₀ s₀ k₀ a0 b0 a1 b1 d0 d1 s k =
+    (k ≤ rows) × Reached (modulusOf q) points weights z (s₀ .second .e) (s₀ .first .e) k (k + 1) (pairsOf (pairOf a0 b0 (s .first .e)) (pairOf a1 b1 (s .second .e)))
     × PairHeld (modulusOf q) (s .first .n) a0 b0 × PairHeld (modulusOf q) (s .second .n) a1 b1 × Stored (modulusOf q) d0 × Stored (modulusOf q) d1
-    × Kept (modulusOf q) points z k rows (pairOf a0 b0 (s .first .e)) d0 × Kept (modulusOf q) points z k rows (pairOf a1 b1 (s .second .e)) d1
+    × Kept (modulusOf q) points weights z k rows (pairOf a0 b0 (s .first .e)) d0 × Kept (modulusOf q) points weights z k rows (pairOf a1 b1 (s .second .e)) d1
     × (s .first .n ≤ k + 1) × (s .second .n ≤ k + 1)
 
 abbrev μ-loop : tie.MeasureT-loop
-μ-loop q points xs z rows a0₀ b0₀ a1₀ b1₀ p ps v vs d0₀ d1₀ s₀ k₀ a0 b0 a1 b1 d0 d1 s k = rows - k
+μ-loop q points xs weights z rows a0₀ b0₀ a1₀ b1₀ p ps v vs d0₀ d1₀ s₀ k₀ a0 b0 a1 b1 d0 d1 s k = rows - k
 
 negations-requires : tie.Need-negations-requires Inv-loop μ-loop
 negations-requires c κs =
-    let S = c .before .before in
-    (omega (arith, S .pre .0 .few), λ k. rw (c .before .modulus .ensures) (S .pre .0 .z-below k))
+    let S = c .before .before .before .before in
+    (omega (arith, S .pre .0 .few), λ k. rw (c .before .before .before .modulus .ensures) (S .pre .0 .z-below k))
 
 loop-holds : tie.Need-loop-holds Inv-loop μ-loop
 loop-holds c =
-    let S = c .before .before .before .before in
+    let S = c .before .before .before .before .before .before in
     let l : 1 < modulusOf (S .args .q) = (let t = modulus-prime (S .args .q) .two in omega arith) in
-    let negated = rw (c .before .before .before .modulus .ensures) at (c .before .negations .ensures) in
+    let first = c .before .before .before .copied in
+    let second = c .before .negations in
+    let negated = rw (c .before .before .before .before .before .modulus .ensures) at (second .ensures) in
     let start = start-is (S .args .start .second .e) (S .args .start .first .e) (S .pre .4) (S .pre .5) (S .pre .6) (S .pre .7) in
-    let kept = start-kept (S .args .points .now) (S .args .z .now) (c .before .negations .result .v) (S .args .rows) _ _ (S .pre .0 .few) l start (negated .0) in (
+    let kept = start-kept (S .args .points .now) (S .args .weights .now) (S .args .z .now) (first .result .v) (second .result .v) (S .args .rows) _ _
+    l (S .pre .0 .weights-below) start (λ k h. first .ensures .0 k (omega (arith, S .pre .0 .few))) (negated .0) in (
       omega arith,
-      reached-start _ _ _ _ _ _ l start,
+      reached-start _ _ _ _ _ _ _ l start,
       rw (S .pre .2) (start-held l (S .pre .4) (S .pre .5) .0),
       rw (S .pre .3) (start-held l (S .pre .7) (S .pre .6) .1),
-      ones-narrow l,
+      record { size = first .ensures .1 .size; below = λ k. omega (arith, first .ensures .1 .below k) },
       negated .1,
       kept .0,
       kept .1,
@@ -54,15 +57,15 @@ step-requires : tie.Need-step-requires Inv-loop μ-loop
 step-requires c κs =
     let R = c .before .before .before .before .before .before .before .before in
     let L = R .before .before in
-    let S = L .before .before .before .before .before in
+    let S = L .before .before .before .before .before .before .before in
     let k = L .loop .k in
     let inv = L .loop .inv in
     let cond = S .pre .0 in
     let taken = R .before .loop-test .taken in
-    let v = L .before .before .before .inverse .ensures in
+    let v = L .before .before .before .before .before .inverse .ensures in
     let few : S .args .rows ≤ 32 = omega (arith, cond .few) in
     rw (R .row .ensures) (
-      constants-are (S .args .q) _ (L .before .before .before .before .modulus .ensures),
+      constants-are (S .args .q) _ (L .before .before .before .before .before .before .modulus .ensures),
       inverses-are (S .args .q) _ v,
       record {
         there = taken;
@@ -84,19 +87,19 @@ step-requires c κs =
 add-k : tie.Need-add-k Inv-loop μ-loop
 add-k c =
     let I = c .before .before .before .before .before .before .before .before .before .before in
-    omega (arith, I .loop-test .taken, I .before .before .before .before .before .before .pre .0 .few)
+    omega (arith, I .loop-test .taken, I .before .before .before .before .before .before .before .before .pre .0 .few)
 
 loop-again : tie.Need-loop-again Inv-loop μ-loop
 loop-again c =
     let R = c .before .before .before .before .before .before .before .before .before in
     let L = R .before .before in
-    let S = L .before .before .before .before .before in
+    let S = L .before .before .before .before .before .before .before in
     let k = L .loop .k in
     let inv = L .loop .inv in
     let taken = R .before .loop-test .taken in
     let s = rw (R .row .ensures) at (c .step .ensures) in
     let few : S .args .rows ≤ 32 = omega (arith, S .pre .0 .few) in
-    let kept = kept-step s (S .args .points .now) (S .args .z .now) (at-row _ _ _ (S .pre .1) few) (inv .6) (inv .7) in (
+    let kept = kept-step s (S .args .points .now) (S .args .weights .now) (S .args .z .now) (at-row _ _ _ (S .pre .1) few) (inv .6) (inv .7) in (
       omega (arith, taken),
       reached-more s (inv .1) refl taken (inv .6) (inv .7),
       s .first .held .pair,
@@ -112,7 +115,7 @@ loop-again c =
 returns : tie.Need-returns Inv-loop μ-loop
 returns c =
     let L = c .before in
-    let S = L .before .before .before .before .before in
+    let S = L .before .before .before .before .before .before .before in
     let inv = L .loop .inv in
     let all : L .loop .k ≡ S .args .rows = omega arith in
     (rw all at (inv .1 .same), held-mono (inv .2) (omega (arith, inv .8, all)), held-mono (inv .3) (omega (arith, inv .9, all)))
@@ -126,9 +129,10 @@ after-rows-spec =
     (λ c κs. search needs)
     (λ c. omega (arith, c .modulus .ensures, modulus-small (c .before .args .q)))
     (λ c κs. search needs)
+    (λ c κs. c .before .before .pre .0 .weights-below)
     negations-requires
     loop-holds
-    (λ c κs. omega (arith, c .loop-test .taken, c .before .before .before .before .before .before .pre .0 .few))
+    (λ c κs. omega (arith, c .loop-test .taken, c .before .before .before .before .before .before .before .before .pre .0 .few))
     step-requires
     add-k
     (λ c. omega (arith, c .before .before .before .before .before .before .before .before .before .before .loop-test .taken))

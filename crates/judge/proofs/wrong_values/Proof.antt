@@ -14,11 +14,11 @@ use Rattle.judge.proofs.wrong_values.Statement.{statement}
 use Rattle.judge.proofs.wrong_values.Tie as tie
 
 abbrev Inv-loop : tie.InvT-loop
-Inv-loop i xs gs values q rows fs word₀ r₀ word r =
-    (r ≤ rows) × (word ≡ wordOf r (λ j. not (eqb (at fs j) (at gs j * at values (j * 4 + i) % modulusOf q))))
+Inv-loop i xs gs weights values q rows fs word₀ r₀ word r =
+    (r ≤ rows) × (word ≡ wordOf r (λ j. not (eqb (at weights j * at fs j) (at gs j * at values (j * 4 + i) % modulusOf q))))
 
 abbrev μ-loop : tie.MeasureT-loop
-μ-loop i xs gs values q rows fs word₀ r₀ word r = rows - r
+μ-loop i xs gs weights values q rows fs word₀ r₀ word r = rows - r
 
 values-requires : tie.Need-values-requires Inv-loop μ-loop
 values-requires c κs =
@@ -31,12 +31,12 @@ loop-holds c = (omega arith, refl)
 
 with-row-requires : tie.Need-with-row-requires Inv-loop μ-loop
 with-row-requires c κs =
-    let head = c .before .before .before .before in
+    let head = c .before .before .before .before .before in
     (omega arith, rw (head .loop .inv .1) (row-room (head .loop .r) _ (omega arith)))
 
 loop-again : tie.Need-loop-again Inv-loop μ-loop
 loop-again c =
-    let head = c .before .before .before .before .before in
+    let head = c .before .before .before .before .before .before in
     let r = head .loop .r in
     let added = c .with-row .ensures ∙ ap₂ (λ word wrong. withRow word r wrong) (head .loop .inv .1) (c .before .output-is-wrong .ensures) in
     (omega arith, added ∙ sym (next-row r _))
@@ -62,6 +62,8 @@ wrong-values-spec =
     (λ c. omega arith)
     values-requires
     loop-holds
+    (λ c. omega arith)
+    (λ c. omega arith)
     (λ c. omega arith)
     (λ c. omega arith)
     (λ c. omega arith)

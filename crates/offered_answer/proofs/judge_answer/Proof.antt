@@ -13,7 +13,8 @@ use Rattle.format.specs.declared.Outcome.the-variants.{Accepted, Refused}
 use Rattle.format.specs.Bounds.{answerLengthOf, Storable}
 use Rattle.header.specs.Header.{boundsOf}
 use Rattle.header.proofs.Fields.{narrow, storable}
-use Rattle.rows.specs.Rows.{jobPoints, jobValues}
+use Rattle.marked_rows.specs.Marks.{speakingCount}
+use Rattle.marked_rows.specs.Table.{jobPoints, jobWeights, jobValues}
 use Rattle.job.specs.Refusals.{outcomeOf}
 use Rattle.job.specs.declared.reading.Reading.{Reading}
 use Rattle.job.proofs.Laws.{reading-outcome, reading-accepted}
@@ -59,7 +60,15 @@ module _ (c : tie.At-match-keys2) where
   in-form : InForm (s here)
   in-form = in-form-if-read (s here) (a here) accepted
 
-  reading : here .read .result ≡ record { outcome = Accepted; bounds = boundsOf (s here); points = jobPoints (s here); values = jobValues (s here) }
+  reading : here .read .result
+      ≡ record {
+        outcome = Accepted;
+        bounds = boundsOf (s here);
+        points = jobPoints (s here);
+        weights = jobWeights (s here);
+        values = jobValues (s here);
+        speaking = speakingCount (s here);
+      }
   reading = here .read .ensures ∙ reading-accepted (s here) 254 accepted
 
 answer-length-requires : tie.Need-answer-length-requires
@@ -81,29 +90,29 @@ size c = c .if1 .left ∙ total (c .before)
 
 passes-requires : tie.Need-passes-requires
 passes-requires c κs =
-    let e = c .before .before in
+    let e = c .before .before .before in
     let m = e .before .before .before in
     subst (λ (r : Reading). (r .bounds .rows ≤ 32) × Storable (r .bounds) × (length (a (here m)) ≡ answerLengthOf (r .bounds))) (sym (reading m))
     ((let n = narrow (s (here m)) .rows-most in omega arith), storable (s (here m)), size e)
 
 -- what the tests said, of the job's own rows
-decided : (c : tie.After-passes) → let m = c .before .before .before .before .before .before in
-    (c .passes .result ≡ true) ↔ Passes (boundsOf (s (here m))) (jobPoints (s (here m))) (jobValues (s (here m))) (a (here m))
+decided : (c : tie.After-passes) → let m = c .before .before .before .before .before .before .before in
+    (c .passes .result ≡ true) ↔ Passes (boundsOf (s (here m))) (jobPoints (s (here m))) (jobWeights (s (here m))) (jobValues (s (here m))) (a (here m))
 decided c =
-    let m = c .before .before .before .before .before .before in
-    subst (λ (r : Reading). (c .passes .result ≡ true) ↔ Passes (r .bounds) (r .points) (r .values) (a (here m))) (reading m) (c .passes .ensures)
+    let m = c .before .before .before .before .before .before .before in
+    subst (λ (r : Reading). (c .passes .result ≡ true) ↔ Passes (r .bounds) (r .points) (r .weights) (r .values) (a (here m))) (reading m) (c .passes .ensures)
 
 returns-3 : tie.Need-returns-3
 returns-3 c =
     let t = c .before in
-    let e = t .before .before .before in
+    let e = t .before .before .before .before in
     let m = e .before .before .before in
     settle-yes (s (here m)) (a (here m)) (in-form m) (passes-right (s (here m)) (a (here m)) (size e) (λ k. here m .before .shared-slice-known2 .given k .fits) (decided t .0 (c .if2 .taken)))
 
 returns-4 : tie.Need-returns-4
 returns-4 c =
     let t = c .before in
-    let e = t .before .before .before in
+    let e = t .before .before .before .before in
     let m = e .before .before .before in
     settle-no (s (here m)) (a (here m)) (in-form m) (size e)
     (λ right. clash (sym (decided t .1 (right-passes (s (here m)) (a (here m)) (size e) right)) ∙ c .if2 .left))

@@ -8,9 +8,11 @@ use lib.ListN.{length}
 use Rattle.format.specs.declared.Outcome.the-variants.{Accepted}
 use Rattle.format.specs.Bounds.{Storable, answerLengthOf, Sized}
 use Rattle.header.specs.Header.{boundsOf}
-use Rattle.rows.specs.Rows.{jobPoints, jobValues}
+use Rattle.marked_rows.specs.Marks.{speakingCount}
+use Rattle.marked_rows.specs.Table.{jobPoints, jobWeights, jobValues}
 use Rattle.job.specs.declared.reading.Reading.{Reading}
 use Rattle.job.specs.Refusals.{WellFormed}
+use Rattle.job.specs.Reading.{readingWith}
 use Rattle.job.proofs.Facts.{well-formed-facts}
 use Rattle.job.proofs.Laws.{reading-accepted, answer-length-most}
 use Rattle.poly.specs.Vectors.{coefficientsAt}
@@ -46,29 +48,29 @@ module _ (c : tie.After-enum-told) where
   well-formed = sym (outcome-read (job here) (area here) (here .read .result) (here .read .ensures)) ∙ c .enum-told .given .1
 
   accepted : here .read .result
-      ≡ record { outcome = Accepted; bounds = boundsOf (job here); points = jobPoints (job here); values = jobValues (job here) }
+      ≡ readingWith Accepted (job here)
   accepted = here .read .ensures ∙ reading-accepted (job here) (length (area here)) well-formed
 
 -- what the solver returned, from the job's own bytes
-solution : (v : tie.After-solve) → let d = v .before .before .before .before in
-    v .solve .result ≡ solutionFor (boundsOf (job (here d))) (jobPoints (job (here d))) (jobValues (job (here d)))
-solution v = v .solve .ensures ∙ ap (λ (r : Reading). solutionFor (r .bounds) (r .points) (r .values)) (accepted (v .before .before .before .before))
+solution : (v : tie.After-solve) → let d = v .before .before .before .before .before in
+    v .solve .result ≡ solutionFor (boundsOf (job (here d))) (speakingCount (job (here d))) (jobPoints (job (here d))) (jobWeights (job (here d))) (jobValues (job (here d)))
+solution v = v .solve .ensures ∙ ap (λ (r : Reading). solutionFor (r .bounds) (r .speaking) (r .points) (r .weights) (r .values)) (accepted (v .before .before .before .before .before))
 
 solve-requires : tie.Need-solve-requires
 solve-requires c κs =
-    let d = c .before .before .before in
+    let d = c .before .before .before .before in
     let W = well-formed-facts (job (here d)) (length (area (here d))) (well-formed d) in
-    subst (λ (r : Reading). Sized (r .bounds) × Table (r .bounds) (r .points)) (sym (accepted d)) (sized (job (here d)) W, table (job (here d)) W)
+    subst (λ (r : Reading). Sized (r .bounds) × Table (r .bounds) (r .speaking) (r .points) (r .weights)) (sym (accepted d)) (sized (job (here d)) W, table (job (here d)) W)
 
 returns-2 : tie.Need-returns-2
 returns-2 c =
     let v = c .before .before in
-    let d = v .before .before .before .before in
+    let d = v .before .before .before .before .before in
     settle-unsolved (job (here d)) (area (here d)) (well-formed d) (v .solve .result) (solution v) (not-true _ (c .if1 .taken))
 
 write-requires : tie.Need-write-requires
 write-requires c κs =
-    let d = c .before .before .before .before .before .before .before .before .before in
+    let d = c .before .before .before .before .before .before .before .before .before .before in
     let W = well-formed-facts (job (here d)) (length (area (here d))) (well-formed d) in
     subst (λ (r : Reading). Storable (r .bounds) × (answerLengthOf (r .bounds) ≤ length (area (here d)))) (sym (accepted d))
     (storable (sized (job (here d)) W), W .enough-area)
@@ -79,7 +81,7 @@ module _ (c : tie.After-slice-known2) where
   w = c .before .before
 
   abbrev told : tie.After-enum-told
-  told = w .before .before .before .before .before .before .before .before .before .before
+  told = w .before .before .before .before .before .before .before .before .before .before .before
 
   bytes-are : w .write .result ≡ answerLengthOf (boundsOf (job (here told)))
   bytes-are = w .write .ensures .0 ∙ ap (λ (r : Reading). answerLengthOf (r .bounds)) (accepted told)

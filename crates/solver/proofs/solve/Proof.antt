@@ -12,8 +12,8 @@ returns : tie.Need-returns
 returns c =
     let a = c .before .before .before in
     let g = a .before .args in
-    c .unsolved .ensures ∙ judged-unsolvable (g .b) (g .points) (g .values) (a .after-outputs .result) (not-true _ (c .before .if1 .taken))
-    ∙ ap (judgedSolution (g .b) (g .points) (g .values)) (a .after-outputs .ensures .0)
+    c .unsolved .ensures ∙ judged-unsolvable (g .b) (g .points) (g .weights) (g .values) (a .after-outputs .result) (not-true _ (c .before .if1 .taken))
+    ∙ ap (judgedSolution (g .b) (g .points) (g .weights) (g .values)) (a .after-outputs .ensures .0)
 
 wrong-rows-requires : tie.Need-wrong-rows-requires
 wrong-rows-requires c κs =
@@ -22,12 +22,12 @@ wrong-rows-requires c κs =
 
 -- the word that was computed is the candidate's
 word-is : (r : tie.After-wrong-rows) → let a = r .before .before .before .before .before in let g = a .before .args in
-    r .wrong-rows .result ≡ wordBy (g .b) (g .points) (g .values) (a .after-outputs .result)
+    r .wrong-rows .result ≡ wordBy (g .b) (g .points) (g .weights) (g .values) (a .after-outputs .result)
 unfolding wordBy
 word-is r = r .wrong-rows .ensures
 
 count-is : (w : tie.After-wrong-count) → let a = w .before .before .before .before .before .before in let g = a .before .args in
-    w .wrong-count .result ≡ wrongCountOf (wordBy (g .b) (g .points) (g .values) (a .after-outputs .result))
+    w .wrong-count .result ≡ wrongCountOf (wordBy (g .b) (g .points) (g .weights) (g .values) (a .after-outputs .result))
 count-is w = w .wrong-count .ensures ∙ ap wrongCountOf (word-is (w .before))
 
 returns-2 : tie.Need-returns-2
@@ -38,9 +38,9 @@ returns-2 c =
     let g = a .before .args in
     let k = a .after-outputs .result in
     c .unsolved2 .ensures
-    ∙ counted-many (g .b) (g .points) (g .values) k (omega (arith, c .before .if2 .taken, count-is (c .before .before .before)))
-    ∙ judged-solvable (g .b) (g .points) (g .values) k (not-false _ (e .if1 .left))
-    ∙ ap (judgedSolution (g .b) (g .points) (g .values)) (a .after-outputs .ensures .0)
+    ∙ counted-many (g .b) (g .points) (g .weights) (g .values) k (omega (arith, c .before .if2 .taken, count-is (c .before .before .before)))
+    ∙ judged-solvable (g .b) (g .points) (g .weights) (g .values) k (not-false _ (e .if1 .left))
+    ∙ ap (judgedSolution (g .b) (g .points) (g .weights) (g .values)) (a .after-outputs .ensures .0)
 
 returns-3 : tie.Need-returns-3
 returns-3 c =
@@ -50,9 +50,9 @@ returns-3 c =
     let a = e .before .before in
     let g = a .before .args in
     let k = a .after-outputs .result in
-    counted-few (g .b) (g .points) (g .values) k (word-is r) (w .wrong-count .ensures) (omega (arith, c .if2 .left))
-    ∙ judged-solvable (g .b) (g .points) (g .values) k (not-false _ (e .if1 .left))
-    ∙ ap (judgedSolution (g .b) (g .points) (g .values)) (a .after-outputs .ensures .0)
+    counted-few (g .b) (g .points) (g .weights) (g .values) k (word-is r) (w .wrong-count .ensures) (omega (arith, c .if2 .left))
+    ∙ judged-solvable (g .b) (g .points) (g .weights) (g .values) k (not-false _ (e .if1 .left))
+    ∙ ap (judgedSolution (g .b) (g .points) (g .weights) (g .values)) (a .after-outputs .ensures .0)
 
 pub solve-spec : {M : Type 1} → statement M
 solve-spec =

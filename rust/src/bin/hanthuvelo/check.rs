@@ -13,7 +13,8 @@ pub const HELP: &str = concat!(
     "\
 usage: hanthuvelo check [OPTION].. FILE..
 
-Prints for each job `accepted`, or the first of the refusals 1, 11, 3, 4, 5 and 6 that applies, in the words of `recover`.
+Prints for each job `accepted`, or the first of the refusals 1, 11, 3, 4, 5, 12 and 6 that applies, in the words of
+`recover`.
 It recovers nothing: an accepted job is one that `recover` recovers, or refuses with 8, as it has no answer.
 ",
     files_help!(),

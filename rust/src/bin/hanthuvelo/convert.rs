@@ -13,7 +13,8 @@ usage: hanthuvelo pack [OPTION].. FILE..
 
 Writes the bytes of each job to standard output, back to back, as `hanthuvelo recover --stream` and `check --stream`
 take them. They begin with the short header, of 3 bytes, where a readable job has one number behind `df`, and with the
-longer one, of 7, where it has one for each output, or `long` behind the only one.
+longer one, of 7, where it has one for each output, `long` behind the only one, `marks` behind them, or a row that is
+`pole` or `silent`.
 FILE is a job as bytes, or a readable one, told apart by its bytes; - is standard input.
 
   --hex          hexadecimal text, a line for each job
@@ -24,7 +25,8 @@ FILE is a job as bytes, or a readable one, told apart by its bytes; - is standar
 pub const SHOW_HELP: &str = "\
 usage: hanthuvelo show [OPTION].. FILE..
 
-Prints each job as a readable one: a line for the prime and the bounds, a line for each row, the point and its values.
+Prints each job as a readable one: a line for the prime and the bounds, a line for each row, the point and its values, or
+`pole` or `silent` in their place.
 FILE is a job as bytes, or a readable one, told apart by its bytes; - is standard input.
 
   --readable     each FILE is a readable job

@@ -13,7 +13,8 @@ pub const HELP: &str = concat!(
     "\
 usage: hanthuvelo recover [OPTION].. FILE..
 
-Prints for each job the outputs as fractions and the wrong rows with their points, or the refusal in words.
+Prints for each job the outputs as fractions and the wrong rows with their points, or the refusal in words. Rows that
+report a pole and silent rows are listed too, where there are any.
 ",
     files_help!(),
     "

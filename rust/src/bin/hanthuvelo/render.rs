@@ -1,7 +1,7 @@
 //! What is printed of a job: for people, or as an object of JSON for programs.
 
 use crate::input::InputError;
-use hanthuvelo::{trimmed, Answer, FormatError, Job, Refusal};
+use hanthuvelo::{trimmed, Answer, FormatError, Job, Reading, Refusal};
 use std::fmt::{Display, Formatter};
 
 /// Where a job stands.
@@ -60,6 +60,13 @@ impl Recovered {
         wrong.into_iter().filter_map(with_point).collect()
     }
 
+    /// Each row that is marked so, with its point.
+    fn marked_rows(&self, mark: Reading) -> Vec<(usize, u16)> {
+        let rows = self.job.rows().iter().enumerate();
+        let marked = rows.filter(|(_, found)| found.reading == mark);
+        marked.map(|(row, found)| (row, found.point)).collect()
+    }
+
     pub fn text(&self, place: &Place) -> String {
         let prime = self.job.bounds().prime.value();
         let mut text = format!("{place}: recovered modulo {prime}\n");
@@ -67,25 +74,54 @@ impl Recovered {
             let fraction = self.answer.fraction(output);
             text += &format!("  f{} = {fraction}\n", output + 1);
         }
-        let with_point = |(row, point)| format!("{row} (u = {point})");
-        let rows: Vec<String> = self.wrong_rows().into_iter().map(with_point).collect();
-        text + &format!("  wrong rows: {}\n", listed(&rows, ", "))
+        text += &rows_line("wrong rows", &self.wrong_rows());
+        for (name, mark) in [
+            ("reported poles", Reading::Pole),
+            ("silent rows", Reading::Silent),
+        ] {
+            let rows = self.marked_rows(mark);
+            if !rows.is_empty() {
+                text += &rows_line(name, &rows);
+            }
+        }
+        text
     }
 
     pub fn json(&self, place: &Place) -> String {
         let prime = self.job.bounds().prime.value();
-        let with_point = |(row, point)| format!("{{\"row\":{row},\"point\":{point}}}");
-        let wrong: Vec<String> = self.wrong_rows().into_iter().map(with_point).collect();
+        let wrong = json_rows(&self.wrong_rows());
+        let marks = match self.job.allows_marks() {
+            true => {
+                let poles = json_rows(&self.marked_rows(Reading::Pole));
+                let silent = json_rows(&self.marked_rows(Reading::Silent));
+                format!(",\"poles\":{poles},\"silent\":{silent}")
+            }
+            false => String::new(),
+        };
         let g = json_polynomial(&self.answer.denominator);
         let f = self.answer.numerators.iter();
         let f: Vec<String> = f.map(|each| json_polynomial(each)).collect();
-        let (f, wrong) = (f.join(","), wrong.join(","));
+        let f = f.join(",");
         json_object(
             place,
             "recovered",
-            &format!("\"prime\":{prime},\"g\":{g},\"f\":[{f}],\"wrong\":[{wrong}]"),
+            &format!("\"prime\":{prime},\"g\":{g},\"f\":[{f}],\"wrong\":{wrong}{marks}"),
         )
     }
+}
+
+/// A line for rows with their points.
+fn rows_line(name: &str, rows: &[(usize, u16)]) -> String {
+    let with_point = |(row, point): &(usize, u16)| format!("{row} (u = {point})");
+    let rows: Vec<String> = rows.iter().map(with_point).collect();
+    format!("  {name}: {}\n", listed(&rows, ", "))
+}
+
+/// Rows with their points, as a list of objects.
+fn json_rows(rows: &[(usize, u16)]) -> String {
+    let object = |(row, point): &(usize, u16)| format!("{{\"row\":{row},\"point\":{point}}}");
+    let rows: Vec<String> = rows.iter().map(object).collect();
+    format!("[{}]", rows.join(","))
 }
 
 /// `none` for an empty list.

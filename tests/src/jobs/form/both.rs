@@ -1,11 +1,11 @@
-//! Jobs with two faults, of which the one with the lower number is named.
+//! Jobs with two faults, of which the one that is tested first is named.
 
 use super::sound::{most_rows, sound_job, Order, Turn};
 use super::FormJob;
 use crate::jobs::faults::{change_length, put_faults};
 use crate::jobs::random::Random;
 
-/// Numbers from 3 to 6, the first one lower.
+/// Numbers of 3, 4, 5, 12 and 6, which are tested in this order.
 pub fn job(random: &mut Random, turn: &mut Turn, first: u32, second: u32) -> FormJob {
     let (prime_code, outputs) = turn.prime_and_outputs();
     let row_count = random.between(3, most_rows(prime_code));

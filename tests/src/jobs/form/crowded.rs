@@ -1,12 +1,13 @@
-//! Jobs modulo 7 with more than 7 rows.
+//! Jobs modulo 7 with more than 7 rows: refused with 5, 12 or 6.
 
 use super::large::set_number;
 use super::sound::{filled, sound_job, Order, Turn};
 use super::FormJob;
+use crate::jobs::faults::{large_number, silence};
 use crate::jobs::random::Random;
 use crate::layout::{Row, MOST_ROWS};
 
-/// Refused with 6, or with 5 where a number is 7 or more besides.
+/// Refused with 6; with 12 where too few rows speak besides, or with 5 where a number is 7 or more.
 pub fn job(random: &mut Random, turn: &mut Turn, number: u32) -> FormJob {
     let outputs = 1 + turn.below(4);
     let different = 1 + turn.below(7);
@@ -24,12 +25,17 @@ pub fn job(random: &mut Random, turn: &mut Turn, number: u32) -> FormJob {
         });
     }
     let mut job = filled(random, job);
-    if number == 6 {
-        return FormJob::refused(job.pack(), 6, different);
+    match number {
+        6 => FormJob::refused(job.pack(), 6, different),
+        12 => {
+            silence(random, &mut job);
+            FormJob::refused(job.pack(), 12, 0)
+        }
+        _ => {
+            let row = random.below(job.rows.len());
+            let large = large_number(random, &job);
+            set_number(&mut job, row, random.below(1 + outputs), large);
+            FormJob::refused(job.pack(), 5, row)
+        }
     }
-    let row = random.below(job.rows.len());
-    let large = random.between(7, 65535) as u32;
-    let large = random.one_of(&[7, 8, large]);
-    set_number(&mut job, row, random.below(1 + outputs), large);
-    FormJob::refused(job.pack(), 5, row)
 }

@@ -1,9 +1,9 @@
 //! Jobs of which one number is p or more.
 
-use super::sound::{most_rows, sound_job, Order, Turn};
+use super::sound::{fill_row, most_rows, sound_job, unmarked_job, Order, Turn};
 use super::FormJob;
 use crate::jobs::random::Random;
-use crate::layout::{Job, PRIMES};
+use crate::layout::{HeaderForm, Job, PRIMES};
 
 /// Which row the number stands in.
 #[derive(Clone, Copy, Debug, PartialEq, Eq, PartialOrd, Ord)]
@@ -60,8 +60,14 @@ pub fn job(random: &mut Random, turn: &mut Turn) -> FormJob {
     let large = Large::new(turn);
     let row_count = large.row_count(random);
     let order = random.one_of(&Order::ALL);
-    let mut job = sound_job(random, (large.prime_code, large.outputs, row_count), order);
+    let size = (large.prime_code, large.outputs, row_count);
+    let mut job = match large.outputs {
+        // A row whose only value is 65535 would be marked under the flag.
+        1 => unmarked_job(random, size, order).under(HeaderForm::Longer),
+        _ => sound_job(random, size, order),
+    };
     let row = large.row(random, row_count);
+    fill_row(random, &mut job, row);
     set_number(&mut job, row, large.column, large.number);
     FormJob {
         large: Some(large),

@@ -2,7 +2,7 @@
 
 use crate::jobs::planted::header_of_size;
 use crate::jobs::random::Random;
-use crate::layout::{Job, MOST_ROWS, PRIMES};
+use crate::layout::{HeaderForm, Job, Mark, MOST_ROWS, PRIMES};
 
 /// How the points of the rows stand.
 #[derive(Clone, Copy, Debug, PartialEq, Eq)]
@@ -61,12 +61,36 @@ pub fn sound_job(random: &mut Random, size: (usize, usize, usize), order: Order)
     filled(random, job)
 }
 
-/// The job with other values below p, often the ends of the range.
+/// The same without marked rows, under any header.
+pub fn unmarked_job(random: &mut Random, size: (usize, usize, usize), order: Order) -> Job {
+    let mut job = sound_job(random, size, order);
+    (0..job.rows.len()).for_each(|row| fill_row(random, &mut job, row));
+    job
+}
+
+/// The job with other values below p, often the ends of the range. Where the header has the flag, some rows are marked, at
+/// times all that can be.
 pub fn filled(random: &mut Random, mut job: Job) -> Job {
+    let share = random.one_of(&[1, 4, 8]);
+    for row in 0..job.rows.len() {
+        fill_row(random, &mut job, row);
+        if job.header != HeaderForm::Flagged || !random.once_in(share) {
+            continue;
+        }
+        let mark = match job.rows_to_spare() {
+            0 => Mark::Pole,
+            _ => random.one_of(&Mark::ALL),
+        };
+        job.rows[row].put(mark);
+    }
+    job
+}
+
+/// Puts values below p into a row.
+pub fn fill_row(random: &mut Random, job: &mut Job, row: usize) {
     let prime = job.prime();
-    for value in job.rows.iter_mut().flat_map(|row| &mut row.values) {
+    for value in &mut job.rows[row].values {
         let drawn = random.residue(prime);
         *value = random.one_of(&[0, prime - 1, drawn, drawn]);
     }
-    job
 }

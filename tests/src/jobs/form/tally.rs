@@ -4,7 +4,7 @@ use super::large::Large;
 use super::{FormJob, OTHER_FAULTS, PLAN};
 use crate::jobs::header_tally::HeaderTally;
 use crate::jobs::tally::{least, outcome, with_floors, Counts};
-use crate::layout::{Job, MOST_ROWS};
+use crate::layout::{HeaderForm, Job, Mark, MOST_ROWS};
 use hanthuvelo::Form;
 use std::collections::BTreeSet;
 
@@ -13,11 +13,11 @@ const ACCEPTED: &str = "accepted";
 
 /// Floors out of ten thousand jobs: of the kinds whose form is not known, and of what was found. Each
 /// kind that fixes the outcome has its whole share as its floor.
-const FLOORS: [(&str, usize); 37] = [
-    ("accepted: AsRecovered", 1000),
+const FLOORS: [(&str, usize); 50] = [
+    ("accepted: AsRecovered", 800),
     ("refused 5: AsRecovered", 20),
-    ("refused 6: AsRecovered", 20),
-    ("accepted: Damaged", 25),
+    ("refused 6: AsRecovered", 10),
+    ("accepted: Damaged", 12),
     ("refused 3: Damaged", 30),
     ("refused 5: Damaged", 30),
     ("refused 11: Damaged", 20),
@@ -34,14 +34,14 @@ const FLOORS: [(&str, usize); 37] = [
     ("refused 1, four bytes", 50),
     ("refused 1, five bytes", 50),
     ("refused 1, six bytes", 50),
-    ("accepted, with an answer", 1000),
-    ("accepted, without an answer", 1000),
+    ("accepted, with an answer", 800),
+    ("accepted, without an answer", 800),
     ("accepted, points rising", 300),
     ("accepted, points falling", 300),
     ("accepted, points in no order", 300),
     ("accepted, the point 0", 300),
     ("accepted, the point p - 1", 300),
-    ("accepted, no row too many", 1000),
+    ("accepted, no row too many", 800),
     ("accepted, rows to spare", 300),
     ("refused 5, row 0", 400),
     ("refused 5, a row between", 400),
@@ -52,16 +52,30 @@ const FLOORS: [(&str, usize); 37] = [
     ("refused 6, the point 0", 200),
     ("refused 6, the point p - 1", 200),
     ("refused 6, more rows than p", 200),
+    ("refused 6, a row that reports a pole", 100),
+    ("refused 6, a silent row", 30),
+    ("refused 6, silent rows to spare", 30),
+    ("refused 12, no row speaks", 50),
+    ("refused 12, one row is missing", 150),
+    ("refused 12, a point repeated", 150),
+    ("refused 12, more rows than p", 100),
+    ("refused 5, too few rows speak", 30),
+    ("accepted, all rows report a pole", 20),
+    ("accepted, poles and no silent row", 200),
+    ("accepted, silent rows", 150),
+    ("accepted, silent rows, none to spare", 100),
+    ("accepted, the flag and no mark", 200),
 ];
 
 /// Floors out of a hundred thousand jobs for each prime and for each number of rows, with each number
-/// of outputs: of the accepted jobs, then of those refused with 11 and 3 to 6.
-const EACH_FLOORS: [(u32, usize, usize); 6] = [
+/// of outputs: of the accepted jobs, then of those refused with 11, 3 to 5, 12 and 6.
+const EACH_FLOORS: [(u32, usize, usize); 7] = [
     (0, 500, 60),
     (11, 100, 0),
     (3, 100, 0),
     (4, 100, 0),
     (5, 500, 60),
+    (12, 200, 15),
     (6, 500, 60),
 ];
 
@@ -88,7 +102,7 @@ pub struct Tally {
     jobs: usize,
     counts: Counts,
     /// By the number of the refusal, 0 for none.
-    sizes: [[Sizes; 4]; 12],
+    sizes: [[Sizes; 4]; 13],
     large: BTreeSet<Large>,
     headers: HeaderTally,
 }
@@ -108,14 +122,15 @@ impl Tally {
         let read = Job::unpack(&job.bytes);
         let sizes = &mut self.sizes[form.refusal as usize][read.outputs() - 1];
         sizes.primes[read.prime_code] += 1;
-        if matches!(form.refusal, 0 | 4..=6) {
+        if matches!(form.refusal, 0 | 4..=6 | 12) {
             sizes.rows[read.rows.len()] += 1;
         }
         let points: Vec<u32> = read.rows.iter().map(|row| row.point).collect();
         match form.refusal {
             0 => self.count_accepted(&read, &points, is_answered),
-            5 => self.count_large(&points, form.row as usize),
-            6 => self.count_repeated(&points, form.row as usize, read.prime()),
+            5 => self.count_large(&read, &points, form.row as usize),
+            12 => self.count_silent(&read, &points),
+            6 => self.count_repeated(&read, &points, form.row as usize),
             _ => {}
         }
     }
@@ -136,20 +151,43 @@ impl Tally {
         let is_least = points.len() == job.needed_rows();
         counts.add("accepted, no row too many", is_least);
         counts.add("accepted, rows to spare", !is_least);
+        let [poles, silent] = Mark::ALL.map(|mark| job.marked(mark).len());
+        let all = poles == points.len();
+        counts.add("accepted, all rows report a pole", all);
+        let poles_alone = poles > 0 && silent == 0;
+        counts.add("accepted, poles and no silent row", poles_alone);
+        counts.add("accepted, silent rows", silent > 0);
+        let is_full = silent > 0 && job.rows_to_spare() == 0;
+        counts.add("accepted, silent rows, none to spare", is_full);
+        let without_mark = job.header == HeaderForm::Flagged && poles + silent == 0;
+        counts.add("accepted, the flag and no mark", without_mark);
     }
 
-    fn count_large(&mut self, points: &[u32], row: usize) {
+    fn count_silent(&mut self, job: &Job, points: &[u32]) {
+        let counts = &mut self.counts;
+        let speaking = job.speaking();
+        counts.add("refused 12, no row speaks", speaking == 0);
+        let is_missing = speaking + 1 == job.needed_rows();
+        counts.add("refused 12, one row is missing", is_missing);
+        counts.add("refused 12, a point repeated", repeats(points));
+        let is_crowded = points.len() > job.prime() as usize;
+        counts.add("refused 12, more rows than p", is_crowded);
+    }
+
+    fn count_large(&mut self, job: &Job, points: &[u32], row: usize) {
         let counts = &mut self.counts;
         let last = points.len() - 1;
         counts.add("refused 5, row 0", row == 0);
         counts.add("refused 5, a row between", 0 < row && row < last);
         counts.add("refused 5, the last row", row == last);
-        let repeats = |later: usize| points[..later].contains(&points[later]);
-        let is_repeated = (0..row).any(repeats);
+        let is_repeated = repeats(&points[..row]);
         counts.add("refused 5, a point repeated before", is_repeated);
+        let is_silent = job.speaking() < job.needed_rows();
+        counts.add("refused 5, too few rows speak", is_silent);
     }
 
-    fn count_repeated(&mut self, points: &[u32], row: usize, prime: u32) {
+    fn count_repeated(&mut self, job: &Job, points: &[u32], row: usize) {
+        let prime = job.prime();
         let counts = &mut self.counts;
         counts.add("refused 6, row 1", row == 1);
         counts.add("refused 6, the last row", row == points.len() - 1);
@@ -157,6 +195,12 @@ impl Tally {
         counts.add("refused 6, the point p - 1", points[row] == prime - 1);
         let is_crowded = points.len() > prime as usize;
         counts.add("refused 6, more rows than p", is_crowded);
+        let is_pole = job.is_marked(row, Mark::Pole);
+        counts.add("refused 6, a row that reports a pole", is_pole);
+        let is_silent = job.is_marked(row, Mark::Silent);
+        counts.add("refused 6, a silent row", is_silent);
+        let has_silent = !job.marked(Mark::Silent).is_empty() && job.rows_to_spare() > 0;
+        counts.add("refused 6, silent rows to spare", has_silent);
     }
 
     /// The least count of a prime and of a number of rows, for each outcome and number of outputs.
@@ -206,4 +250,9 @@ impl Tally {
         let headers = self.headers.lines(&OTHER_FAULTS);
         with_floors(lines.chain(self.size_lines()).chain(headers))
     }
+}
+
+/// Whether a point stands in an earlier row.
+fn repeats(points: &[u32]) -> bool {
+    (0..points.len()).any(|later| points[..later].contains(&points[later]))
 }

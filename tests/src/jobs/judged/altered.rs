@@ -4,7 +4,7 @@ use super::right::{solvable, solvable_of};
 use super::Pair;
 use crate::jobs::planted::{planted, Planted, Shape, WrongRows};
 use crate::jobs::random::Random;
-use crate::layout::{row_bit, wrong_rows, Answer};
+use crate::layout::{row_bit, wrong_rows, Answer, Mark};
 use crate::second::polynomial::Polynomial;
 use crate::second::Field;
 
@@ -19,6 +19,12 @@ pub enum Word {
     RowsSwapped,
     /// A row is marked that does not exist, or all of these are.
     NoSuchRow,
+    /// A silent row is marked, or all of these are.
+    SilentRow,
+    /// A row is marked that reports a pole rightly.
+    RightPole,
+    /// A row is not marked that reports a pole wrongly.
+    FalsePole,
 }
 
 /// Where a bit is flipped.
@@ -54,10 +60,16 @@ pub enum Vector {
 
 impl Word {
     pub fn pair(self, random: &mut Random) -> Pair {
-        let planted = solvable(random, |planted| planted.word != 0 || self == Word::RowMore);
+        let planted = solvable(random, |planted| self.fits(planted));
         let (wrong, right) = planted.wrong_and_right_rows();
+        let (false_poles, poles) = planted.wrong_and_right_poles();
+        let silent = planted.job.marked(Mark::Silent);
         let row_count = planted.job.rows.len();
         let flipped = match self {
+            Word::RightPole => row_bit(random.one_of(&poles)),
+            Word::FalsePole => row_bit(random.one_of(&false_poles)),
+            Word::SilentRow if random.once_in(4) => silent.into_iter().map(row_bit).sum(),
+            Word::SilentRow => row_bit(random.one_of(&silent)),
             Word::RowMore => row_bit(random.one_of(&right)),
             Word::RowLess => row_bit(random.one_of(&wrong)),
             Word::RowsSwapped => row_bit(random.one_of(&right)) | row_bit(random.one_of(&wrong)),
@@ -67,6 +79,18 @@ impl Word {
         let mut offered = planted.answer();
         offered.word ^= flipped;
         Pair::judged(&planted.job, &offered, false)
+    }
+
+    /// Whether a job has a row for it.
+    fn fits(self, planted: &Planted) -> bool {
+        let (false_poles, poles) = planted.wrong_and_right_poles();
+        match self {
+            Word::RowMore => true,
+            Word::RowLess | Word::RowsSwapped | Word::NoSuchRow => planted.word != 0,
+            Word::SilentRow => !planted.job.marked(Mark::Silent).is_empty(),
+            Word::RightPole => !poles.is_empty(),
+            Word::FalsePole => !false_poles.is_empty(),
+        }
     }
 }
 

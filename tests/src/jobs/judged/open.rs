@@ -7,12 +7,12 @@ use crate::jobs::faulty;
 use crate::jobs::fraction::Fraction;
 use crate::jobs::planted::{header, Shape, WrongRows};
 use crate::jobs::random::Random;
-use crate::layout::{wrong_rows, Answer, Job};
+use crate::layout::{wrong_rows, Answer, HeaderForm, Job, Mark};
 use crate::second::polynomial::Polynomial;
 
 #[derive(Clone, Copy, Debug, PartialEq, Eq)]
 pub enum Open {
-    /// Random values and a random reduced vector, whose wrong rows are marked.
+    /// Random values, poles at times, and a random reduced vector, whose wrong rows are marked.
     RandomVector,
     /// The answer of the job before one of its bits was flipped.
     DamagedJob,
@@ -56,8 +56,12 @@ fn random_vector(random: &mut Random) -> Pair {
         }
     };
     let prime = job.prime();
-    for value in job.rows.iter_mut().flat_map(|row| &mut row.values) {
-        *value = random.residue(prime);
+    let has_marks = job.header == HeaderForm::Flagged;
+    for row in &mut job.rows {
+        row.values.fill_with(|| random.residue(prime));
+        if has_marks && random.once_in(4) {
+            row.put(Mark::Pole);
+        }
     }
     let fraction = loop {
         if let Some(fraction) = Fraction::draw(random, &job, Shape::Any, 0) {

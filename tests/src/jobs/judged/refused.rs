@@ -6,7 +6,7 @@ use crate::jobs::added::Breach;
 use crate::jobs::planted::Planted;
 use crate::jobs::random::Random;
 use crate::jobs::{Expected, GeneratedJob};
-use crate::layout::{wrong_rows, HeaderForm, Job, MOST_ROWS};
+use crate::layout::{wrong_rows, HeaderForm, Job, Mark, MOST_ROWS};
 use hanthuvelo::Judgement;
 
 /// The job's answer, with this done to its length.
@@ -131,6 +131,7 @@ pub fn slight_pair(random: &mut Random, number: u32) -> Pair {
     match number {
         4 => planted.job.rows.truncate(planted.job.needed_rows() - 1),
         5 => row = add_prime(random, &mut planted.job),
+        12 => silence_one(random, &mut planted),
         6 => row = repeat_row(random, &mut planted),
         _ => {}
     }
@@ -159,13 +160,17 @@ impl Planted {
     fn takes_fault(&self, number: u32) -> bool {
         let prime = self.job.prime();
         match number {
-            5 => numbers(&self.job).any(|(_, number)| number + prime <= 65535),
+            5 => numbers(&self.job).any(|(_, number)| number + prime <= HIGHEST),
             6 => self.job.rows.len() < MOST_ROWS,
-            11 => self.job.header == HeaderForm::Longer,
+            12 => self.job.header == HeaderForm::Flagged,
+            11 => self.job.header.is_longer(),
             _ => true,
         }
     }
 }
+
+/// The highest number that is no mark.
+const HIGHEST: u32 = 65533;
 
 /// Every point and value, with its row.
 fn numbers(job: &Job) -> impl Iterator<Item = (usize, u32)> + '_ {
@@ -187,10 +192,18 @@ fn add_prime(random: &mut Random, job: &mut Job) -> usize {
             0 => &mut job.rows[row].point,
             _ => &mut job.rows[row].values[place - 1],
         };
-        if *number + prime <= 65535 {
+        if *number + prime <= HIGHEST {
             *number += prime;
             return row;
         }
+    }
+}
+
+/// Lets all rows to spare be silent, and one more, so that the answer keeps as many wrong rows or has fewer.
+fn silence_one(random: &mut Random, planted: &mut Planted) {
+    while planted.job.speaking() >= planted.job.needed_rows() {
+        let row = random.below(planted.job.rows.len());
+        planted.job.rows[row].put(Mark::Silent);
     }
 }
 

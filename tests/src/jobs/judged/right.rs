@@ -1,14 +1,17 @@
 //! Pairs whose offered answer is the job's.
 
 use super::Pair;
+use crate::jobs::marked::Marks;
 use crate::jobs::planted::{planted, Planted, Shape, WrongRows};
 use crate::jobs::random::Random;
-use crate::layout::{wrong_rows, Answer};
+use crate::layout::{wrong_rows, Answer, Mark, PRIMES};
 use crate::second;
 
 #[derive(Clone, Copy, Debug, PartialEq, Eq)]
 pub enum Right {
     Any,
+    /// Some rows are marked.
+    Marked,
     /// Every f is zero, and g is 1.
     AllZero,
     /// g and all f but one have a common divisor.
@@ -20,7 +23,7 @@ pub enum Right {
 }
 
 /// What jobs with an answer are like.
-const SOLVABLE: [(Shape, WrongRows); 12] = [
+const SOLVABLE: [(Shape, WrongRows); 17] = [
     (Shape::Any, WrongRows::Exact),
     (Shape::Any, WrongRows::Exact),
     (Shape::Any, WrongRows::Fewer),
@@ -33,6 +36,11 @@ const SOLVABLE: [(Shape, WrongRows); 12] = [
     (Shape::WholeField, WrongRows::Exact),
     (Shape::LooseBounds, WrongRows::Exact),
     (Shape::LooseBounds, WrongRows::Fewer),
+    (Shape::Marked(Marks::Poles), WrongRows::Exact),
+    (Shape::Marked(Marks::OwnPoles), WrongRows::Exact),
+    (Shape::Marked(Marks::PolesAboveErrors), WrongRows::Exact),
+    (Shape::Marked(Marks::Silent), WrongRows::Exact),
+    (Shape::Marked(Marks::PolesAndSilent), WrongRows::Fewer),
 ];
 
 /// A job that has an answer and is as wanted; other draws are thrown away.
@@ -56,6 +64,7 @@ impl Right {
     pub fn pair(self, random: &mut Random) -> Pair {
         let planted = match self {
             Right::Any => solvable(random, |_| true),
+            Right::Marked => solvable(random, |planted| planted.job.has_marks()),
             Right::AllZero => solvable_of(random, Shape::AllZero),
             Right::PartlyCommon => solvable_of(random, Shape::PartlyCommon),
             Right::WrongRowAltered => wrong_row_altered(random),
@@ -71,8 +80,13 @@ fn wrong_row_altered(random: &mut Random) -> Planted {
     let row = random.one_of(&wrong);
     loop {
         let mut job = planted.job.clone();
-        let output = random.below(job.outputs());
-        job.rows[row].values[output] = random.residue(job.prime());
+        let is_pole = job.is_marked(row, Mark::Pole);
+        let altered = random.below(job.outputs());
+        for (output, value) in job.rows[row].values.iter_mut().enumerate() {
+            if is_pole || output == altered {
+                *value = random.residue(PRIMES[job.prime_code]);
+            }
+        }
         let word = wrong_rows(&job, &planted.denominator, &planted.numerators);
         if job != planted.job && word == planted.word {
             planted.job = job;

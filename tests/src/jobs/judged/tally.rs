@@ -3,6 +3,7 @@
 use super::{Pair, Verdict, OTHER_FAULTS, PLAN};
 use crate::definition::Fault;
 use crate::jobs::header_tally::HeaderTally;
+use crate::jobs::mark_tally::MarkTally;
 use crate::jobs::tally::{with_floors, Counts};
 use crate::layout::{has_pole, value_at, Answer, Job, Row};
 use crate::second::polynomial::Polynomial;
@@ -12,9 +13,9 @@ use std::collections::BTreeSet;
 
 /// Floors out of ten thousand pairs: of the open kinds, and of what was judged. Each kind that fixes
 /// its verdict has its whole share as its floor.
-const FLOORS: [(&str, usize); 36] = [
+const FLOORS: [(&str, usize); 37] = [
     ("Yes: Open(RandomVector)", 8),
-    ("No: Open(RandomVector)", 300),
+    ("No: Open(RandomVector)", 250),
     ("Yes: Open(DamagedJob)", 10),
     ("No: Open(DamagedJob)", 50),
     ("Refused: Open(DamagedJob)", 20),
@@ -45,7 +46,8 @@ const FLOORS: [(&str, usize); 36] = [
     ("No, for LeadingCoefficient alone", 150),
     ("No, for CommonDivisor alone", 200),
     ("No, for WrongMark alone", 500),
-    ("No, for NoSuchRow alone", 200),
+    ("No, for SilentRow alone", 150),
+    ("No, for NoSuchRow alone", 150),
     ("No, for TooManyWrong alone", 300),
     ("Yes, with exactly E > 0 wrong rows", 800),
     ("Yes, with a pole among the points", 300),
@@ -65,6 +67,7 @@ pub struct Tally {
     counts: Counts,
     flipped: BTreeSet<usize>,
     headers: HeaderTally,
+    marks: MarkTally,
 }
 
 impl Tally {
@@ -96,20 +99,9 @@ impl Tally {
     }
 
     fn count_right(&mut self, job: &Job, answer: &Answer) {
+        self.marks.count(job, answer);
         let (g, prime) = (&answer.denominator, job.prime());
-        let is_right_for_each = |row: &Row| -> Vec<bool> {
-            let below = value_at(g, row.point, prime);
-            let is_right = |(f, value): (&Vec<u32>, &u32)| {
-                value_at(f, row.point, prime) == below * value % prime
-            };
-            answer
-                .numerators
-                .iter()
-                .zip(&row.values)
-                .map(is_right)
-                .collect()
-        };
-        let rows: Vec<Vec<bool>> = job.rows.iter().map(is_right_for_each).collect();
+        let rows = right_values(job, answer);
         let wrong_values = rows.iter().flatten().filter(|is_right| !**is_right).count();
         let right_for_f1 = rows.iter().any(|row| row[0] && row.contains(&false));
         let is_zero_at_pole = |row: &Row| {
@@ -156,8 +148,23 @@ impl Tally {
             ),
         ];
         let lines = whole.into_iter().chain(of_plan).chain(others);
-        with_floors(lines.chain(self.headers.lines(&OTHER_FAULTS)))
+        let headers = self.headers.lines(&OTHER_FAULTS);
+        with_floors(lines.chain(headers).chain(self.marks.lines()))
     }
+}
+
+/// Of each row with values, whether each of them is right.
+fn right_values(job: &Job, answer: &Answer) -> Vec<Vec<bool>> {
+    let prime = job.prime();
+    let of_row = |row: &Row| -> Vec<bool> {
+        let below = value_at(&answer.denominator, row.point, prime);
+        let is_right =
+            |(f, value): (&Vec<u32>, &u32)| value_at(f, row.point, prime) == below * value % prime;
+        let values = answer.numerators.iter().zip(&row.values);
+        values.map(is_right).collect()
+    };
+    let rows = job.rows.iter().filter(|row| job.mark(row).is_none());
+    rows.map(of_row).collect()
 }
 
 impl Verdict {

@@ -4,7 +4,7 @@ use super::right::solvable;
 use super::Pair;
 use crate::jobs::planted::{planted, spoil, Planted, Shape, WrongRows};
 use crate::jobs::random::Random;
-use crate::layout::{row_bit, Answer};
+use crate::layout::{row_bit, wrong_rows, Answer, HeaderForm, Mark};
 
 #[derive(Clone, Copy, Debug, PartialEq, Eq)]
 pub enum TooMany {
@@ -14,6 +14,8 @@ pub enum TooMany {
     OneNotMarked,
     /// The answer of the job before more rows were spoiled, with its word or with their marks.
     Spoiled,
+    /// The same, and the rows that were spoiled report a pole.
+    FalsePoles,
 }
 
 impl TooMany {
@@ -31,7 +33,27 @@ impl TooMany {
                 Pair::judged(&planted.job, &offered, false)
             }
             TooMany::Spoiled => spoiled(random),
+            TooMany::FalsePoles => false_poles(random),
         }
+    }
+}
+
+fn false_poles(random: &mut Random) -> Pair {
+    let is_flagged = |planted: &Planted| planted.job.header == HeaderForm::Flagged;
+    let mut planted = solvable(random, is_flagged);
+    let answer = planted.answer();
+    let (mut rows, job) = (planted.wrong_and_right_rows().1, &mut planted.job);
+    rows.retain(|&row| !job.is_marked(row, Mark::Pole));
+    random.shuffle(&mut rows);
+    let needed = job.error_bound + 1 - answer.word.count_ones() as usize;
+    for &row in rows.iter().take(needed) {
+        job.rows[row].put(Mark::Pole);
+    }
+    let marks = wrong_rows(job, &planted.denominator, &planted.numerators);
+    let word = random.one_of(&[answer.word, marks, marks]);
+    match rows.len() < needed {
+        true => false_poles(random),
+        false => Pair::judged(job, &Answer { word, ..answer }, false),
     }
 }
 
@@ -46,7 +68,7 @@ fn spoiled(random: &mut Random) -> Pair {
     let answer = planted.answer();
     let job = &mut planted.job;
     let least = job.error_bound + 1;
-    let any = random.between(least, job.rows.len());
+    let any = random.between(least, job.speaking());
     let wrong_count = random.one_of(&[least, any]);
     let (denominator, numerators) = (&planted.denominator, &planted.numerators);
     let marks = spoil(random, job, denominator, numerators, wrong_count);

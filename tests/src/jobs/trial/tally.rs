@@ -4,12 +4,12 @@ use super::fault::Fault;
 use super::{Fields, TrialCall, OTHER_FAULTS};
 use crate::jobs::header_tally::HeaderTally;
 use crate::jobs::tally::{with_floors, Counts};
-use crate::layout::Job;
+use crate::layout::{HeaderForm, Job};
 use crate::second::TrialJob;
 use hanthuvelo::Written;
 
 /// Floors out of a thousand calls: of what they were made to be, and of what became of them.
-const FLOORS: [(&str, usize); 37] = [
+const FLOORS: [(&str, usize); 39] = [
     ("exact area", 150),
     ("longer area", 300),
     ("common divisor of g and all f but one", 30),
@@ -34,6 +34,8 @@ const FLOORS: [(&str, usize); 37] = [
     ("written with 2 outputs", 100),
     ("written with 3 outputs", 100),
     ("written with 4 outputs", 100),
+    ("written with the flag", 150),
+    ("written with the flag, poles", 60),
     ("w is 0", 60),
     ("w is L", 60),
     ("L is p", 50),
@@ -74,6 +76,7 @@ impl Tally {
 
     fn count_job(&mut self, call: &TrialCall, job: &TrialJob) {
         let Fields {
+            form,
             prime,
             outputs,
             row_count,
@@ -89,6 +92,10 @@ impl Tally {
         counts.add("written", true);
         counts.add(&format!("written modulo {prime}"), true);
         counts.add(&format!("written with {outputs} output{ending}"), true);
+        let is_flagged = form == HeaderForm::Flagged;
+        counts.add("written with the flag", is_flagged);
+        let has_pole = is_flagged && !job.poles.is_empty();
+        counts.add("written with the flag, poles", has_pole);
         counts.add("w is 0", call.spoiled == 0);
         counts.add("w is L", call.spoiled as usize == row_count);
         counts.add("L is p", row_count == prime as usize);
