@@ -3,8 +3,8 @@
  *
  * Given rows (x; y1 .. yn) modulo a prime p, the library finds the reduced fractions f1/g .. fn/g within the
  * degree bounds that are wrong at no more than E rows, and says which rows those are; or it says that there
- * are none. It also checks the form of jobs alone, writes trial jobs, whose result is known, from such fractions, judges
- * answers that others computed, and gives reciprocals modulo p.
+ * are none. It also says how far off the next answer is, checks the form of jobs alone, writes trial jobs, whose result is
+ * known, from such fractions, judges answers that others computed, and gives reciprocals modulo p.
  *
  * After `bash install PREFIX`, pkg-config knows the flags as `hanthuvelo`. Without it link
  * target/staticlib/libcapi.a, which `rt staticlib capi` writes. The archive is for x86-64 Linux and needs nothing
@@ -144,6 +144,23 @@ struct hanthuvelo_refusal {
  * the call allocates no memory and keeps nothing between calls.
  */
 struct hanthuvelo_refusal hanthuvelo_check(const uint8_t *job, size_t job_length);
+
+/*
+ * How far off the next answer is: S - df - dg - 2 wrong, S being how many rows of the job of job_length bytes at `job`
+ * speak.
+ *
+ * With the number of wrong rows that a recovery of the job returns, this is the margin of its answer: any other reduced
+ * fractions within d1 .. dn and dg leave at least that many rows more wrong than the answer does. So where one row is wrong
+ * and the margin is 5, all others are wrong at six rows or more. The margin of an answer is never below 1. It says the same
+ * of any reduced fractions within these bounds that are wrong at `wrong` rows, also more than E, if it is not 0.
+ *
+ * Returns 0 where a check refuses the job, with 1, 11, 3, 4, 5, 12 or 6, and where S - df - dg - 2 wrong is below 1.
+ *
+ * Any bytes make a job, which is only read, and any number is taken as `wrong`. The caller sees to it that the pointer
+ * leads to as many bytes as the length says, and that nothing writes to them until the call returns. A pointer whose length
+ * is 0 is not followed. As a recovery, the call allocates no memory and keeps nothing between calls.
+ */
+uint32_t hanthuvelo_margin(const uint8_t *job, size_t job_length, uint32_t wrong);
 
 /* What a call that writes a trial job returns. */
 struct hanthuvelo_written {

@@ -42,6 +42,8 @@ mod linked {
         ) -> Judgement;
 
         fn hanthuvelo_check(job: *const u8, job_length: usize) -> Form;
+
+        fn hanthuvelo_margin(job: *const u8, job_length: usize, wrong: u32) -> u32;
     }
 
     /// Recovers the job in `job` and writes its answer to the start of `area`.
@@ -110,9 +112,32 @@ mod linked {
         // its caller.
         unsafe { hanthuvelo_check(job.as_ptr(), job.len()) }
     }
+
+    /// How far off the next answer is: S - df - dg - 2 `wrong`, S being how many rows of the job speak. It is 0 where a check
+    /// refuses the job, and where that number is below 1.
+    ///
+    /// Any bytes make a job, and any number is taken. With the number of wrong rows that a recovery reports it is the margin
+    /// of the job's answer, and means what [`Job::margin`](crate::Job::margin) says. It means the same for any reduced vector
+    /// within the bounds that is wrong at so many rows, also more than E, if it is not 0.
+    ///
+    /// ```
+    /// use hanthuvelo::{hex, margin};
+    ///
+    /// // Three readings of a constant modulo 7: S is 3, df and dg are 0.
+    /// let job = hex::bytes("01 80 02 0000 0005 0001 0005 0002 0002").expect("bytes");
+    /// assert_eq!([0, 1, 2, u32::MAX].map(|wrong| margin(&job, wrong)), [3, 1, 0, 0]);
+    ///
+    /// // A byte is missing.
+    /// assert_eq!(margin(&job[..14], 0), 0);
+    /// ```
+    pub fn margin(job: &[u8], wrong: u32) -> u32 {
+        // SAFETY: the pointer comes from a live slice of the length passed with it, and the function asks nothing else of
+        // its caller.
+        unsafe { hanthuvelo_margin(job.as_ptr(), job.len(), wrong) }
+    }
 }
 
-pub use linked::{check, judge, reciprocal, recover, trial};
+pub use linked::{check, judge, margin, reciprocal, recover, trial};
 
 impl Prime {
     /// The reciprocal of a number modulo this prime p: the only r below p whose product with the number is 1 modulo p.
@@ -141,6 +166,32 @@ impl Job {
             Some(refusal) => Err(refusal),
             None => Ok(Answer::read(&area, self.bounds())),
         }
+    }
+
+    /// The margin of this job's answer: every other answer within the bounds leaves at least that many rows more wrong than
+    /// this one does.
+    ///
+    /// It is S - df - dg - 2 W, where S rows speak and W of them are wrong, and never below 1. It means this of the answer that
+    /// [`recover`](Job::recover) gives. Of any other answer, only the number of its marked rows is looked at; 0 stands for a
+    /// number below 1, and for a job that [`check`](Job::check) refuses.
+    ///
+    /// ```
+    /// use hanthuvelo::Job;
+    ///
+    /// // Five readings of a constant modulo 7, of which one may be wrong: it is 5, and row 2 is wrong. S is 5 and W is 1. The
+    /// // constant 2 is wrong at four rows, and every other one at all five.
+    /// let readings = "prime 7 outputs 1 df 0 dg 0 errors 1\n0: 5\n1: 5\n2: 2\n3: 5\n4: 5";
+    /// let job: Job = readings.parse().expect("a readable job");
+    /// let answer = job.recover().expect("an answer");
+    /// assert_eq!(job.margin(&answer), 3);
+    ///
+    /// // A silent row is not counted: S is 4.
+    /// let job: Job = readings.replace("4: 5", "4: silent").parse().expect("a readable job");
+    /// let answer = job.recover().expect("an answer");
+    /// assert_eq!(job.margin(&answer), 2);
+    /// ```
+    pub fn margin(&self, answer: &Answer) -> u32 {
+        margin(&self.pack(), answer.word.count_ones())
     }
 
     /// Whether this job's form is as it should be, or which refusal of the form it meets first: 4, 5, 12 or 6, as the bytes of

@@ -56,6 +56,8 @@
 //! # }
 //! ```
 //!
+//! [`Job::margin`] says how sure an answer is: every other one within the bounds leaves at least that many rows more wrong.
+//!
 //! [`Job::check`] says whether a job meets one of the refusals 1, 11, 3 to 5, 12 and 6, those of its form, without
 //! recovering it.
 //!
@@ -67,8 +69,8 @@
 //! [`Prime::reciprocal`] is the reciprocal of a number modulo a prime, and `None` for zero, which has none: so a curve 1/g
 //! has no value at a pole.
 //!
-//! [`recover`], [`check`], [`judge`], [`trial`](fn@trial) and [`reciprocal`] are the calls themselves, on any bytes, areas and
-//! numbers, as the C header declares them.
+//! [`recover`], [`margin`], [`check`], [`judge`], [`trial`](fn@trial) and [`reciprocal`] are the calls themselves, on any
+//! bytes, areas and numbers, as the C header declares them.
 
 #![deny(unsafe_code)]
 #![warn(missing_docs)]
@@ -92,7 +94,7 @@ mod trial;
 pub use answer::{polynomial_text, trimmed, Answer};
 pub use bounds::{Bounds, NumeratorBounds};
 #[cfg(feature = "library")]
-pub use call::{check, judge, reciprocal, recover, trial};
+pub use call::{check, judge, margin, reciprocal, recover, trial};
 pub use format::FormatError;
 pub use header::{BrokenRule, Header};
 pub use job::Job;

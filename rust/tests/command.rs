@@ -17,6 +17,7 @@ examples/poles.job: recovered modulo 97
   f1 = (1 + 2 u) / (15 + 89 u + u^2)
   f2 = (4 + u^2) / (15 + 89 u + u^2)
   wrong rows: 3 (u = 3), 5 (u = 5), 8 (u = 8), 10 (u = 10)
+  margin: 1
 ";
 
 fn h1() -> Vec<u8> {
@@ -31,6 +32,7 @@ standard input: recovered modulo 7
   f1 = 1 / (1 + u)
   f2 = u / (1 + u)
   wrong rows: none
+  margin: 1
 ";
     let readable = fs::read(format!("{ROOT}/examples/h08.job")).expect("an example");
     assert_done(&run_on(&["recover", "-"], &readable), h8);
@@ -49,7 +51,7 @@ fn recover_gives_bytes_and_objects() {
     assert_done(
         &object,
         "{\"file\":\"examples/h03.job\",\"status\":\"recovered\",\"prime\":7,\"g\":[0,1],\"f\":[[1]],\
-         \"wrong\":[{\"row\":0,\"point\":0}]}\n",
+         \"wrong\":[{\"row\":0,\"point\":0}],\"margin\":1}\n",
     );
     let zero = run(&["recover", "--json", "examples/h05.job"]);
     assert!(

@@ -13,7 +13,8 @@ const OWN_ANSWER: &str = "00000000 0001 0001 0001 0000 0001";
 const OWN_TEXT: &str = "recovered modulo 7
   f1 = 1 / (1 + u)
   f2 = u / (1 + u)
-  wrong rows: none";
+  wrong rows: none
+  margin: 1";
 /// The example's polynomials, which its file was made from.
 const G: [u32; 6] = [3969, 9825, 58887, 44548, 52417, 1];
 const F: [&[u32]; 3] = [
@@ -40,7 +41,8 @@ fn the_example_is_recovered() {
     let wrong = wrong.map(|(row, point)| format!("{{\"row\":{row},\"point\":{point}}}"));
     let wrong = wrong.join(",");
     let place = format!("\"file\":\"{name}\",\"status\":\"recovered\",\"prime\":65521");
-    let object = format!("{{{place},\"g\":[{g}],\"f\":[[{f}]],\"wrong\":[{wrong}]}}\n");
+    let object =
+        format!("{{{place},\"g\":[{g}],\"f\":[[{f}]],\"wrong\":[{wrong}],\"margin\":1}}\n");
     assert_done(&run(&["recover", "--json", name]), &object);
     // Rows 4, 9 and 13, from the top.
     let numbers = [&G[..], F[0], F[1], F[2]].concat();
@@ -184,7 +186,7 @@ fn a_bad_header_is_said_by_each_verb() {
 const STREAM: [(&str, &str); 5] = [
     (
         "01 80 02 0000 0005 0001 0005 0002 0002",
-        "recovered modulo 7\n  f1 = 5\n  wrong rows: 2 (u = 2)",
+        "recovered modulo 7\n  f1 = 5\n  wrong rows: 2 (u = 2)\n  margin: 1",
     ),
     (OWN_BYTES, OWN_TEXT),
     (
@@ -197,7 +199,7 @@ const STREAM: [(&str, &str); 5] = [
     ),
     (
         "01 00 20 0001 0001 0002 0004",
-        "recovered modulo 7\n  f1 = 1 / u\n  wrong rows: none",
+        "recovered modulo 7\n  f1 = 1 / u\n  wrong rows: none\n  margin: 1",
     ),
 ];
 
@@ -268,6 +270,7 @@ standard input: recovered modulo 7
   f1 = 5 / (1 + u)
   f2 = (1 + 2 u) / (1 + u)
   wrong rows: 0 (u = 0), 6 (u = 6)
+  margin: 1
 ";
     assert_done(&recovered, expected);
     let beyond = wider.replace("f1 = 5", "f1 = 5 + u");

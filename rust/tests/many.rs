@@ -78,8 +78,9 @@ fn expected_object(job: &[u8], number: usize, byte: usize) -> String {
         .map(|row| format!("{{\"row\":{row},\"point\":{}}}", point(row)))
         .collect();
     let g = joined(&numbers_of(&text, "g").expect("a denominator"));
+    let margin = joined(&numbers_of(&text, "margin").expect("a margin"));
     let (f, wrong, marks) = (f.join(","), wrong.join(","), expected_marks(job));
-    format!("{place},\"status\":\"recovered\",\"prime\":{prime},\"g\":[{g}],\"f\":[{f}],\"wrong\":[{wrong}]{marks}}}")
+    format!("{place},\"status\":\"recovered\",\"prime\":{prime},\"g\":[{g}],\"f\":[{f}],\"wrong\":[{wrong}]{marks},\"margin\":{margin}}}")
 }
 
 /// The rows that report a pole and the silent ones, where the header has the flag.

@@ -21,12 +21,14 @@ examples/reported.job: recovered modulo 7
   f2 = 2 / (3 + u)
   wrong rows: none
   reported poles: 1 (u = 4)
+  margin: 1
 examples/silent.job: recovered modulo 97
   f1 = (1 + 2 u) / (15 + 89 u + u^2)
   f2 = (4 + u^2) / (15 + 89 u + u^2)
   wrong rows: 8 (u = 8), 10 (u = 10)
   reported poles: 3 (u = 3), 5 (u = 5), 8 (u = 8)
   silent rows: 6 (u = 6), 9 (u = 9)
+  margin: 2
 ";
     assert_done(&run(&["recover", "--quiet", REPORTED, SILENT]), text);
 }
@@ -36,7 +38,7 @@ fn marked_rows_stand_in_objects() {
     let start = "{\"file\":\"examples/reported.job\",\"status\":\"recovered\",\"prime\":7";
     let found = "\"g\":[3,1],\"f\":[[4],[2]],\"wrong\":[]";
     let marks = "\"poles\":[{\"row\":1,\"point\":4}],\"silent\":[]";
-    let object = format!("{start},{found},{marks}}}\n");
+    let object = format!("{start},{found},{marks},\"margin\":1}}\n");
     assert_done(&run(&["recover", "--json", REPORTED]), &object);
     let silent = run(&["recover", "--json", SILENT]).text;
     let rows = |rows: [u32; 2]| {
@@ -44,7 +46,7 @@ fn marked_rows_stand_in_objects() {
         rows.join(",")
     };
     let wrong = format!("\"wrong\":[{}],", rows([8, 10]));
-    let end = format!("\"silent\":[{}]}}\n", rows([6, 9]));
+    let end = format!("\"silent\":[{}],\"margin\":2}}\n", rows([6, 9]));
     assert!(
         silent.contains(&wrong) && silent.ends_with(&end),
         "{silent}"
@@ -57,7 +59,7 @@ fn objects_have_the_keys_where_the_flag_is() {
     let h1 = fs::read_to_string(format!("{ROOT}/examples/h01.job")).expect("an example");
     let flagged = h1.replace("df 0 dg", "df 0 marks dg");
     let object = run_on(&["recover", "--json", "-"], flagged.as_bytes()).text;
-    let end = "\"wrong\":[{\"row\":2,\"point\":2}],\"poles\":[],\"silent\":[]}\n";
+    let end = "\"wrong\":[{\"row\":2,\"point\":2}],\"poles\":[],\"silent\":[],\"margin\":1}\n";
     assert!(object.ends_with(end), "{object}");
     let text = run_on(&["recover", "-"], flagged.as_bytes());
     let plain = run_on(&["recover", "-"], h1.as_bytes());
@@ -192,6 +194,7 @@ standard input: recovered modulo 7
   f1 = 5 / (1 + u)
   f2 = 1 / (1 + u)
   wrong rows: 0 (u = 0), 6 (u = 6)
+  margin: 2
 ";
     assert_done(&recovered, expected);
 }
@@ -205,7 +208,7 @@ fn a_stream_has_marked_jobs() {
     let said = run(&["recover", "--stream", "--quiet", &name]);
     let fractions =
         "  f1 = 4 / (3 + u)\n  f2 = 2 / (3 + u)\n  wrong rows: none\n  reported poles: 1 (u = 4)\n";
-    let answer = format!("recovered modulo 7\n{fractions}");
+    let answer = format!("recovered modulo 7\n{fractions}  margin: 1\n");
     let refused = "refused 12: df + dg + 2 E + 1 is 3, the number of rows that speak is 2\n";
     let expected = format!(
         "{name}, job 0 at byte 0: {answer}{name}, job 1 at byte 19: {refused}{name}, job 2 at byte 38: {answer}"

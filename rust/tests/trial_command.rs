@@ -43,6 +43,7 @@ standard input: recovered modulo 7
   f1 = 5 / (1 + u)
   f2 = 1 / (1 + u)
   wrong rows: 0 (u = 0), 6 (u = 6)
+  margin: 2
 ";
     assert_eq!((recovered.text.as_str(), recovered.status), (expected, 0));
 }

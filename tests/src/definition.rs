@@ -1,8 +1,12 @@
 //! Paper 01's definition itself, with item 6 of paper 02 for marked rows: every answer of a small job, by trying all
-//! polynomials; and what an offered answer of any job lacks of it.
+//! polynomials; every other reduced vector, and how many rows it leaves wrong; and what an offered answer of any job lacks of
+//! being the job's.
+
+mod vectors;
 
 use crate::layout::{row_bit, trimmed, wrong_rows, Answer, HeaderForm, Job, Mark, Row};
 use crate::second::{reduced, Field};
+pub use vectors::{Nearest, Vector, Vectors};
 
 /// Every reduced answer within the job's bounds with at most E wrong rows.
 ///
@@ -14,10 +18,7 @@ pub fn answers(job: &Job) -> Vec<Answer> {
             if !has_few_wrong_rows(job, &denominator, coefficients) {
                 return;
             }
-            let numerators: Vec<Vec<u32>> = job
-                .numerators_in(coefficients)
-                .map(<[u32]>::to_vec)
-                .collect();
+            let numerators = numerator_lists(job, coefficients);
             if is_reduced(&denominator, &numerators, job.prime()) {
                 let word = wrong_rows(job, &denominator, &numerators);
                 found.push(Answer {
@@ -29,6 +30,12 @@ pub fn answers(job: &Job) -> Vec<Answer> {
         });
     }
     found
+}
+
+/// f1, f2, .. as lists of their own.
+fn numerator_lists(job: &Job, coefficients: &[u32]) -> Vec<Vec<u32>> {
+    let lists = job.numerators_in(coefficients);
+    lists.map(<[u32]>::to_vec).collect()
 }
 
 /// How many coefficients f1, f2, .. have together, each up to its own bound.
@@ -123,19 +130,24 @@ pub fn candidates(job: &Job) -> u64 {
         .saturating_mul(numerators)
 }
 
-/// No polynomial of positive degree divides g and every fi. A divisor can be taken monic, and its
-/// degree is at most that of g, which ends in its leading coefficient.
+/// No polynomial of positive degree divides g, which ends in its leading coefficient, and every fi.
 pub fn is_reduced(denominator: &[u32], numerators: &[Vec<u32>], prime: u32) -> bool {
-    let degree = denominator.len() - 1;
-    monic_polynomials(degree, prime)
-        .iter()
-        .filter(|divisor| divisor.len() > 1)
-        .all(|divisor| {
-            !divides(divisor, denominator, prime)
-                || !numerators
-                    .iter()
-                    .all(|numerator| divides(divisor, numerator, prime))
-        })
+    !have_one_in_common(&divisors(denominator, prime), numerators, prime)
+}
+
+/// All divisors of g that have a positive degree; its leading coefficient is 1, and so can be theirs.
+fn divisors(denominator: &[u32], prime: u32) -> Vec<Vec<u32>> {
+    let mut all = monic_polynomials(denominator.len() - 1, prime);
+    all.retain(|each| each.len() > 1 && divides(each, denominator, prime));
+    all
+}
+
+/// Whether one of the divisors of g divides every fi.
+fn have_one_in_common(divisors: &[Vec<u32>], numerators: &[Vec<u32>], prime: u32) -> bool {
+    divisors.iter().any(|divisor| {
+        let mut numerators = numerators.iter();
+        numerators.all(|numerator| divides(divisor, numerator, prime))
+    })
 }
 
 /// Whether a monic polynomial divides another one: its leading term is taken out from the top.
@@ -177,6 +189,46 @@ pub fn for_each_list(length: usize, prime: u32, visit: &mut dyn FnMut(&[u32])) {
         list[..place].fill(0);
     }
 }
+
+/// Small bounds: of each f, dg and E.
+pub const SMALLEST: [(&[usize], usize, usize); 21] = [
+    (&[0], 0, 0),
+    (&[0], 0, 1),
+    (&[0], 1, 0),
+    (&[1], 0, 0),
+    (&[1], 1, 0),
+    (&[0], 2, 0),
+    (&[2], 0, 0),
+    (&[0], 1, 1),
+    (&[1], 0, 1),
+    (&[1], 1, 1),
+    (&[0], 0, 2),
+    (&[2], 1, 0),
+    (&[1], 2, 0),
+    (&[0, 0], 0, 0),
+    (&[0, 0], 1, 0),
+    (&[1, 1], 0, 0),
+    (&[1, 0], 0, 0),
+    (&[0, 1], 0, 0),
+    (&[0, 0], 0, 1),
+    (&[0, 0, 0], 0, 0),
+    (&[0, 0, 0, 0], 0, 0),
+];
+
+/// The same for jobs with marked rows, and how many rows more than needed.
+pub const SMALLEST_MARKED: [(&[usize], usize, usize, usize); 11] = [
+    (&[0], 0, 0, 1),
+    (&[0], 1, 0, 1),
+    (&[1], 0, 0, 1),
+    (&[0], 0, 1, 1),
+    (&[1], 1, 0, 1),
+    (&[0], 2, 0, 1),
+    (&[0], 1, 1, 1),
+    (&[0, 0], 0, 0, 1),
+    (&[0, 0], 1, 0, 1),
+    (&[1, 0], 1, 0, 0),
+    (&[0, 0, 0], 1, 0, 0),
+];
 
 /// Calls `visit` with every job modulo 7 that has these bounds of each f, of g and of the wrong rows, no row more than they
 /// need, and its rows at the points 0 to L − 1. Its header is the longer one.

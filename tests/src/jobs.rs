@@ -9,6 +9,7 @@ pub mod form;
 mod fraction;
 mod header_tally;
 pub mod judged;
+pub mod margin;
 mod mark_tally;
 mod marked;
 pub mod measured;
@@ -16,6 +17,7 @@ mod own_bound;
 mod planted;
 mod random;
 pub mod reciprocal;
+pub mod small;
 mod tally;
 pub mod trial;
 
@@ -27,7 +29,7 @@ use marked::Marks;
 use own_bound::beyond_own_bound;
 use planted::{planted, Planted, Shape, WrongRows};
 pub use random::Random;
-pub use tally::{Kind, Tally};
+pub use tally::{with_floors, Counts, Kind, Tally};
 
 /// What the generator knows of a job's outcome.
 pub enum Expected {

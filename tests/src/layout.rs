@@ -12,7 +12,7 @@ pub const MOST_ROWS: usize = 31;
 /// The most bytes that a job can have: the longer header, 31 rows, four outputs.
 pub const LONGEST_JOB: usize = 317;
 
-#[derive(Clone, Debug, PartialEq, Eq)]
+#[derive(Clone, Debug, PartialEq, Eq, PartialOrd, Ord)]
 pub struct Row {
     pub point: u32,
     pub values: Vec<u32>,

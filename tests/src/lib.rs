@@ -139,6 +139,32 @@ pub fn checkers() -> Vec<Checker> {
     ]
 }
 
+/// One way to find the margin of a job's answer with so many wrong rows.
+#[derive(Clone, Copy)]
+pub struct Margin {
+    pub name: &'static str,
+    pub find: fn(&[u8], u32) -> u32,
+}
+
+/// Every way to find margins to be compared; the library's only where its feature is on.
+pub fn margins() -> Vec<Margin> {
+    vec![
+        #[cfg(feature = "library")]
+        Margin {
+            name: "library",
+            find: hanthuvelo::margin,
+        },
+        Margin {
+            name: "plain",
+            find: plain::margin,
+        },
+        Margin {
+            name: "second",
+            find: second::margin,
+        },
+    ]
+}
+
 /// A number of the environment by which a run is changed, or the usual one.
 pub fn setting<T: FromStr>(name: &str, usual: T) -> T {
     match std::env::var(name) {

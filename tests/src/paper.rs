@@ -1,5 +1,5 @@
-//! The worked examples of paper 01, typed from it, and examples of the longer header of paper 02, item 5, worked out by
-//! hand.
+//! The worked examples of paper 01, typed from it, and examples of the longer header and of the margin, items 5 and 7 of
+//! paper 02, worked out by hand.
 
 mod marks;
 
@@ -301,8 +301,47 @@ pub const NOT_ANSWERS: [(&str, &str); 31] = [
     ("bounds 1, 0", "40000000 0001 0004 0000 0002"),
 ];
 
-/// What the printing program writes for the example with the bounds 2, 0 and 1.
-pub const BOUNDS_PRINTED: &str = "recovered 0\nwrong\ng 1 1\nf1 1 0 1\nf2 3\nf3 0 2\n";
+/// Margins, S − df − dg − 2W or 0: the example, W and the margin. Those of H1 to H12 that have an answer stand here with its W.
+pub const MARGINS: [(&str, u32, u32); 27] = [
+    // S is 3, and 2W is 0, 2, 4 and more.
+    ("H1", 1, 1),
+    ("H1", 0, 3),
+    ("H1", 2, 0),
+    ("H1", 0x8000_0001, 0),
+    ("H12", 1, 1),
+    ("H5", 1, 1),
+    // 2 − 0 − 1.
+    ("H2", 0, 1),
+    // 4 − 0 − 1 − 2W.
+    ("H3", 1, 1),
+    ("H3", 0, 3),
+    ("H4", 1, 1),
+    // 3 − 1 − 1, without an answer too.
+    ("H6", 0, 1),
+    ("H7", 0, 1),
+    ("H7", 1, 0),
+    ("H8", 0, 1),
+    ("H9", 1, 1),
+    ("H10", 0, 1),
+    // The value is too large.
+    ("H11", 0, 0),
+    // 4 − 2 − 1, and 4 − 1 − 0 − 2W whichever output has the bound 1.
+    ("bounds 2, 0, 1", 0, 1),
+    ("bounds 0, 1", 1, 1),
+    ("bounds 1, 0", 0, 3),
+    ("df 1", 1, 1),
+    // A row that reports a pole speaks, rightly or not: S is 2, 3 and 3. 4 − 1 − 2 with two outputs.
+    ("two outputs and a pole", 0, 1),
+    ("H1 with a pole", 1, 1),
+    ("8, poles alone", 0, 3),
+    ("a pole of each output alone", 0, 1),
+    // S is one less than L: 3 of 4, and 2 of 3.
+    ("H1 with a silent row", 1, 1),
+    ("1/u silent at its pole", 0, 1),
+];
 
-/// The whole output of the printing program for H1.
-pub const H1_PRINTED: &str = "recovered 1\nwrong 2\ng 1\nf1 5\n";
+/// What the printing program writes for the example with the bounds 2, 0 and 1; four rows speak.
+pub const BOUNDS_PRINTED: &str = "recovered 0\nwrong\ng 1 1\nf1 1 0 1\nf2 3\nf3 0 2\nmargin 1\n";
+
+/// The whole output of the printing program for H1, with the line that item 7 of paper 02 adds.
+pub const H1_PRINTED: &str = "recovered 1\nwrong 2\ng 1\nf1 5\nmargin 1\n";

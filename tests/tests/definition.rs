@@ -2,9 +2,12 @@
 
 use hanthuvelo::hex;
 use hanthuvelo::Report;
-use outside_checks::definition::{answers, candidates, for_each_marked_job, for_each_smallest_job};
+use outside_checks::definition::{
+    answers, candidates, for_each_marked_job, for_each_smallest_job, SMALLEST, SMALLEST_MARKED,
+};
+use outside_checks::jobs::small::{small_job, small_jobs, small_marked_job};
 use outside_checks::jobs::Random;
-use outside_checks::layout::{value_at, HeaderForm, Job, Mark, Row};
+use outside_checks::layout::{HeaderForm, Job, Mark};
 use outside_checks::{implementations, Implementation};
 
 const SEED: u64 = 31;
@@ -76,130 +79,10 @@ fn show(name: &str, counts: &Counts) {
 #[test]
 fn all_values_of_the_smallest_jobs() {
     let mut counts = Counts::default();
-    // The bound of each f, dg, E.
-    let bounds: [(&[usize], usize, usize); 21] = [
-        (&[0], 0, 0),
-        (&[0], 0, 1),
-        (&[0], 1, 0),
-        (&[1], 0, 0),
-        (&[1], 1, 0),
-        (&[0], 2, 0),
-        (&[2], 0, 0),
-        (&[0], 1, 1),
-        (&[1], 0, 1),
-        (&[1], 1, 1),
-        (&[0], 0, 2),
-        (&[2], 1, 0),
-        (&[1], 2, 0),
-        (&[0, 0], 0, 0),
-        (&[0, 0], 1, 0),
-        (&[1, 1], 0, 0),
-        (&[1, 0], 0, 0),
-        (&[0, 1], 0, 0),
-        (&[0, 0], 0, 1),
-        (&[0, 0, 0], 0, 0),
-        (&[0, 0, 0, 0], 0, 0),
-    ];
-    for bounds in bounds {
+    for bounds in SMALLEST {
         for_each_smallest_job(bounds, &mut |job| compare(job, &mut counts));
     }
     show("all values of the smallest jobs", &counts);
-}
-
-/// Small bounds, 7 rows at most, and random values.
-fn random_values(random: &mut Random) -> Job {
-    let row_count = random.between(1, 7);
-    let errors = random.between(0, (row_count - 1) / 2);
-    let room = row_count - 1 - 2 * errors;
-    let df = random.between(0, room);
-    let dg = random.between(0, room - df);
-    let outputs = random.between(1, 4);
-    let numerator_bounds = random_bounds(random, outputs, df);
-    let mut points: Vec<u32> = (0..7).collect();
-    random.shuffle(&mut points);
-    let rows = points[..row_count].iter().map(|&point| Row {
-        point,
-        values: (0..outputs).map(|_| random.residue(7)).collect(),
-    });
-    Job {
-        header: HeaderForm::Longer,
-        prime_code: 0,
-        numerator_bounds,
-        denominator_bound: dg,
-        error_bound: errors,
-        rows: rows.collect(),
-    }
-}
-
-/// The same, or values of a random fraction with a number of random rows.
-fn random_job(random: &mut Random) -> Job {
-    let mut job = random_values(random);
-    // At times the fraction passes the bound of an output, though not df.
-    let bounds = match random.once_in(5) {
-        true => vec![job.numerator_bound(); job.outputs()],
-        false => job.numerator_bounds.clone(),
-    };
-    let mut draw = |bound: usize| (0..=bound).map(|_| random.residue(7)).collect::<Vec<u32>>();
-    let denominator = draw(job.denominator_bound);
-    let numerators: Vec<Vec<u32>> = bounds.into_iter().map(&mut draw).collect();
-    let row_count = job.rows.len();
-    let spoilt = random.between(0, job.error_bound + 1);
-    let fitted = if random.once_in(6) {
-        row_count
-    } else {
-        spoilt.min(row_count)
-    };
-    fit_rows(&mut job.rows[fitted..], &denominator, &numerators);
-    random.shuffle(&mut job.rows);
-    job
-}
-
-/// The same with marks: rows at roots of the denominator report them, mostly, and others at times; rows to spare are silent at
-/// times.
-fn random_marked_job(random: &mut Random) -> Job {
-    let mut job = random_values(random);
-    job.header = HeaderForm::Flagged;
-    let mut draw = |bound: usize| (0..=bound).map(|_| random.residue(7)).collect::<Vec<u32>>();
-    let denominator = draw(job.denominator_bound);
-    let bounds = job.numerator_bounds.clone();
-    let numerators: Vec<Vec<u32>> = bounds.into_iter().map(&mut draw).collect();
-    let spoilt = random.between(0, job.error_bound + 1);
-    fit_rows(&mut job.rows[spoilt..], &denominator, &numerators);
-    for row in 0..job.rows.len() {
-        let is_root = value_at(&denominator, job.rows[row].point, 7) == 0;
-        if is_root && !random.once_in(4) || random.once_in(8) {
-            job.rows[row].put(Mark::Pole);
-        }
-        if job.rows_to_spare() > 0 && random.once_in(3) {
-            job.rows[row].put(Mark::Silent);
-        }
-    }
-    random.shuffle(&mut job.rows);
-    job
-}
-
-/// df for every f, or for one of them and for each other one its own bound.
-fn random_bounds(random: &mut Random, outputs: usize, df: usize) -> Vec<usize> {
-    let mut bounds = vec![df; outputs];
-    if random.once_in(2) {
-        bounds.fill_with(|| random.between(0, df));
-        bounds[random.below(outputs)] = df;
-    }
-    bounds
-}
-
-/// The values of a fraction modulo 7, found by search; rows where it has none stay as they are.
-fn fit_rows(rows: &mut [Row], denominator: &[u32], numerators: &[Vec<u32>]) {
-    let value = |polynomial: &[u32], point| value_at(polynomial, point, 7);
-    for row in rows {
-        let below = value(denominator, row.point);
-        for (entry, numerator) in row.values.iter_mut().zip(numerators) {
-            let above = value(numerator, row.point);
-            *entry = (0..7)
-                .find(|&quotient| quotient * below % 7 == above)
-                .unwrap_or(*entry);
-        }
-    }
 }
 
 /// Compares so many random jobs that are wanted and not too large.
@@ -210,12 +93,9 @@ fn compare_random(
     is_wanted: fn(&Job) -> bool,
 ) -> Counts {
     let mut counts = Counts::default();
-    let mut random = Random::new(SEED, count as u64);
-    while counts.jobs < count {
-        let job = draw(&mut random);
-        if candidates(&job) <= 20_000 && is_wanted(&job) {
-            compare(&job, &mut counts);
-        }
+    let random = Random::new(SEED, count as u64);
+    for job in small_jobs(random, (count, 20_000), draw, is_wanted) {
+        compare(&job, &mut counts);
     }
     show(name, &counts);
     counts
@@ -223,14 +103,14 @@ fn compare_random(
 
 #[test]
 fn random_small_jobs() {
-    let counts = compare_random("random small jobs", 6000, random_job, |_| true);
+    let counts = compare_random("random small jobs", 6000, small_job, |_| true);
     assert!(counts.answered >= 2000 && counts.jobs - counts.answered >= 1000);
 }
 
 #[test]
 fn random_small_jobs_with_bounds_that_differ() {
     let name = "random small jobs with bounds that differ";
-    let counts = compare_random(name, 3000, random_job, |job| !job.has_equal_bounds());
+    let counts = compare_random(name, 3000, small_job, |job| !job.has_equal_bounds());
     assert!(counts.answered >= 600 && counts.jobs - counts.answered >= 1000);
 }
 
@@ -238,10 +118,10 @@ fn random_small_jobs_with_bounds_that_differ() {
 fn random_small_jobs_with_poles() {
     let has_pole = |job: &Job| !job.marked(Mark::Pole).is_empty();
     let name = "random small jobs with rows that report a pole";
-    let counts = compare_random(name, 6000, random_marked_job, has_pole);
+    let counts = compare_random(name, 6000, small_marked_job, has_pole);
     assert!(counts.answered >= 1500 && counts.jobs - counts.answered >= 1500);
     let name = "the same with several outputs";
-    let counts = compare_random(name, 3001, random_marked_job, |job| {
+    let counts = compare_random(name, 3001, small_marked_job, |job| {
         job.outputs() > 1 && job.marked(Mark::Pole).len() > 1
     });
     assert!(counts.answered >= 300 && counts.jobs - counts.answered >= 1000);
@@ -250,7 +130,7 @@ fn random_small_jobs_with_poles() {
 #[test]
 fn random_small_jobs_with_silent_rows() {
     let name = "random small jobs with silent rows";
-    let counts = compare_random(name, 3002, random_marked_job, |job| {
+    let counts = compare_random(name, 3002, small_marked_job, |job| {
         !job.marked(Mark::Silent).is_empty()
     });
     assert!(counts.answered >= 600 && counts.jobs - counts.answered >= 600);
@@ -260,21 +140,7 @@ fn random_small_jobs_with_silent_rows() {
 #[test]
 fn all_marks_of_the_smallest_jobs() {
     let mut counts = Counts::default();
-    // The bound of each f, dg, E, and how many rows more than needed.
-    let bounds: [(&[usize], usize, usize, usize); 11] = [
-        (&[0], 0, 0, 1),
-        (&[0], 1, 0, 1),
-        (&[1], 0, 0, 1),
-        (&[0], 0, 1, 1),
-        (&[1], 1, 0, 1),
-        (&[0], 2, 0, 1),
-        (&[0], 1, 1, 1),
-        (&[0, 0], 0, 0, 1),
-        (&[0, 0], 1, 0, 1),
-        (&[1, 0], 1, 0, 0),
-        (&[0, 0, 0], 1, 0, 0),
-    ];
-    for (numerator_bounds, dg, errors, surplus) in bounds {
+    for (numerator_bounds, dg, errors, surplus) in SMALLEST_MARKED {
         for_each_marked_job((numerator_bounds, dg, errors), surplus, &mut |job| {
             compare(job, &mut counts);
         });

@@ -1,10 +1,20 @@
 //! The C header: a C program that includes it and calls the library, compiled as C and as C++.
 #![cfg(feature = "library")]
 
-use std::path::Path;
+use std::fs;
+use std::path::{Path, PathBuf};
 use std::process::Command;
 
-/// Compiles the program with these words before its name, and runs it.
+/// The program's files.
+fn sources(folder: &Path) -> Vec<PathBuf> {
+    let files = fs::read_dir(folder).expect("the folder of the C program");
+    let files = files.map(|entry| entry.expect("a file").path());
+    files
+        .filter(|path| path.extension().is_some_and(|end| end == "c"))
+        .collect()
+}
+
+/// Compiles the program with these words before its files, and runs it.
 fn compile_and_run(compiler: &str, words: &[&str], name: &str) {
     let root = Path::new(env!("CARGO_MANIFEST_DIR")).join("..");
     let program = Path::new(env!("CARGO_TARGET_TMPDIR")).join(name);
@@ -12,7 +22,7 @@ fn compile_and_run(compiler: &str, words: &[&str], name: &str) {
         .args(["-Wall", "-Wextra", "-Werror", "-I"])
         .arg(root.join("include"))
         .args(words)
-        .arg(root.join("tests/c/header.c"))
+        .args(sources(&root.join("tests/c")))
         .args(["-x", "none"])
         .arg(root.join("target/staticlib/libcapi.a"))
         .arg("-o")

@@ -59,10 +59,10 @@ fn a_c_program_needs_the_flags_alone() {
         let known = fs::metadata(prefix.join(file)).expect("an installed file");
         assert_eq!(known.permissions().mode() & 0o777, mode, "{file}");
     }
-    fs::copy(format!("{ROOT}/tests/c/header.c"), folder.join("program.c")).expect("a program");
-    let line = "cc -std=c99 -Wall -Wextra -Werror program.c $(pkg-config --cflags --libs hanthuvelo) -o program && ./program";
+    let line = "cc -std=c99 -Wall -Wextra -Werror \"$0\"/*.c $(pkg-config --cflags --libs hanthuvelo) -o program && ./program";
     let mut shell = Command::new("sh");
-    shell.args(["-c", line]).current_dir(&folder);
+    shell.args(["-c", line, &format!("{ROOT}/tests/c")]);
+    shell.current_dir(&folder);
     output(shell.env("PKG_CONFIG_PATH", prefix.join("lib/pkgconfig")));
     let version = output(
         Command::new("pkg-config")
@@ -74,13 +74,13 @@ fn a_c_program_needs_the_flags_alone() {
     let command = prefix.join("bin/hanthuvelo");
     let told = output(Command::new(&command).args(["recover", &example]));
     assert!(
-        told.ends_with("\n  f1 = 5\n  wrong rows: 2 (u = 2)\n"),
+        told.ends_with("\n  f1 = 5\n  wrong rows: 2 (u = 2)\n  margin: 1\n"),
         "{told}"
     );
     let line = "bin/hanthuvelo pack \"$0\" | bin/hanthuvelo-print";
     let mut shell = Command::new("sh");
     let printed = output(shell.args(["-c", line, &example]).current_dir(&prefix));
-    assert_eq!(printed, "recovered 1\nwrong 2\ng 1\nf1 5\n");
+    assert_eq!(printed, "recovered 1\nwrong 2\ng 1\nf1 5\nmargin 1\n");
 }
 
 /// For a package: the files stand below DESTDIR, which may be named from the folder that one is in,

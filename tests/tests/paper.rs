@@ -3,11 +3,11 @@
 use hanthuvelo::{hex, Form, Judgement, Report, Written};
 use outside_checks::layout::{HeaderForm, Job};
 use outside_checks::paper::{
-    Example, BOUNDS_PRINTED, EXAMPLES, H1_PRINTED, LONGER, LONGER_REFUSALS, MARKS, MARKS_REFUSALS,
-    NOT_ANSWERS, NOT_ANSWERS_WITH_MARKS, POLE_PRINTED, REFUSALS,
+    Example, BOUNDS_PRINTED, EXAMPLES, H1_PRINTED, LONGER, LONGER_REFUSALS, MARGINS, MARKS,
+    MARKS_REFUSALS, NOT_ANSWERS, NOT_ANSWERS_WITH_MARKS, POLE_PRINTED, REFUSALS,
 };
 use outside_checks::second;
-use outside_checks::{checkers, implementations, judges, writers, Implementation};
+use outside_checks::{checkers, implementations, judges, margins, writers, Implementation, Margin};
 
 /// Bytes behind the area that the example names, to see that they stay.
 const SURPLUS: usize = 9;
@@ -266,15 +266,47 @@ fn the_form_of_each_example_is_checked() {
     }
 }
 
+/// Refusals 1, 11, 3 to 5, 12 and 6 leave no margin, whatever number of wrong rows is named.
+#[test]
+fn the_margins_of_the_examples() {
+    for Margin { name, find } in margins() {
+        for (example_name, wrong, margin) in MARGINS {
+            let job = paper_bytes(example(example_name).job);
+            assert_eq!(find(&job, wrong), margin, "{example_name} by {name}");
+        }
+        let all = REFUSALS.iter().chain(&LONGER_REFUSALS);
+        for example in all.chain(&MARKS_REFUSALS) {
+            let job = paper_bytes(example.job);
+            let has_margin = matches!(example.report.refusal, 7 | 8);
+            assert_eq!(find(&job, 0) > 0, has_margin, "{} by {name}", example.name);
+            assert_eq!(find(&job, u32::MAX), 0, "{} by {name}", example.name);
+        }
+        assert_eq!(find(&[], 0), 0, "{name}");
+    }
+    // Each answer is among them, with its number of wrong rows.
+    for example in EXAMPLES[..12].iter().filter(|each| !each.answer.is_empty()) {
+        let mut listed = MARGINS.iter();
+        let is_listed =
+            listed.any(|(name, wrong, _)| *name == example.name && *wrong == example.report.wrong);
+        assert!(is_listed, "{}", example.name);
+    }
+}
+
 #[test]
 fn the_printed_text_of_the_second_solver() {
     let printed = |name: &str| second::printed(&paper_bytes(example(name).job));
     assert_eq!(printed("H1"), H1_PRINTED);
-    assert_eq!(printed("H2"), "recovered 0\nwrong\ng 0 1\nf1 1\n");
-    assert_eq!(printed("H3"), "recovered 1\nwrong 0\ng 0 1\nf1 1\n");
-    assert_eq!(printed("H5"), "recovered 1\nwrong 2\ng 1\nf1 0\n");
+    assert_eq!(printed("H2"), "recovered 0\nwrong\ng 0 1\nf1 1\nmargin 1\n");
+    assert_eq!(
+        printed("H3"),
+        "recovered 1\nwrong 0\ng 0 1\nf1 1\nmargin 1\n"
+    );
+    assert_eq!(printed("H5"), "recovered 1\nwrong 2\ng 1\nf1 0\nmargin 1\n");
     assert_eq!(printed("H7"), "refused 8 0\n");
-    assert_eq!(printed("H8"), "recovered 0\nwrong\ng 1 1\nf1 1\nf2 0 1\n");
+    assert_eq!(
+        printed("H8"),
+        "recovered 0\nwrong\ng 1 1\nf1 1\nf2 0 1\nmargin 1\n"
+    );
     assert_eq!(printed("H11"), "refused 5 0\n");
     assert_eq!(second::printed(&[]), "refused 1 0\n");
     assert_eq!(printed("H1 longer"), H1_PRINTED);

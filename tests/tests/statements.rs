@@ -94,7 +94,7 @@ fn method_below(contracts: &[(&str, &str)]) -> Vec<String> {
 fn the_demands_do_not_rest_on_the_method() {
     let speaks = |root: &(&str, &str)| root.1.contains("reciprocal");
     let (reciprocals, others): (Vec<_>, Vec<_>) = ROOTS.into_iter().partition(speaks);
-    assert_eq!(others.len(), 15);
+    assert_eq!(others.len(), 18);
     assert_eq!(method_below(&others), Vec::<String>::new());
     for root in reciprocals {
         let place = "crates/reciprocal/specs/Reciprocals.antt: `reciprocalOf`".to_string();

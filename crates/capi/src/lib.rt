@@ -3,6 +3,7 @@ ghost use mathlib.Core.Path.{_≡_};
 ghost use Rattle.form_check.specs.Reports.{formReportOf};
 ghost use Rattle.format.specs.Outcomes.{writingReportOf};
 ghost use Rattle.job.specs.Form.{formOutcomeOf};
+ghost use Rattle.margin.specs.Margin.{marginOf};
 ghost use Rattle.offered_answer.specs.Judgements.{Judged};
 ghost use Rattle.reciprocal.specs.Reports.{codedReciprocal, reciprocalReportOf};
 ghost use Rattle.recovery.specs.Recovery.{Settled};
@@ -84,4 +85,12 @@ pub extern "C" fn hanthuvelo_check(job: &[u8]) -> FormReport
 {
     let outcome = form_check::check(job);
     form_check::reported(outcome)
+}
+
+// Any job and any number of wrong rows: the caller owes nothing. 0 where a test before 7 refuses the job, or the margin would be below 1.
+#[no_mangle]
+pub extern "C" fn hanthuvelo_margin(job: &[u8], wrong: u32) -> u32
+    ensures { λ r. ⌜ r ≡ marginOf (now (job .entry)) wrong ⌝ }
+{
+    margin::margin(job, wrong)
 }

@@ -3,15 +3,20 @@ use Prim.Native.Nat.{ℕ, _≤_}
 use mathlib.Core.Bool.{Bool}
 use mathlib.Core.List.{List}
 use mathlib.Core.Logic.{_⊎_, inl, inr}
-use mathlib.Core.Path.{_≡_, sym, ap, ap₂, fun-ext, subst, _∙_}
+use mathlib.Core.Path.{_≡_, refl, sym, ap, ap₂, fun-ext, subst, _∙_}
 use lib.ListN.{length}
 use Rattle.format.specs.declared.Bounds.{Bounds}
+use Rattle.format.specs.declared.Outcome.{Outcome}
+use Rattle.format.specs.declared.Outcome.the-variants.{Accepted, Recovered, Refused}
 use Rattle.format.specs.declared.Report.{Report}
 use Rattle.format.specs.Bounds.{primeOf, answerLengthOf}
 use Rattle.format.specs.Outcomes.{reportOf, recoveredReport}
 use Rattle.header.specs.Header.{boundsOf}
 use Rattle.rows.specs.Rows.{numberAt}
+use Rattle.job.specs.Form.{formOutcomeOf}
 use Rattle.job.specs.Refusals.{outcomeOf}
+use Rattle.margin.specs.Margin.{marginBy, marginOf}
+use Rattle.margin.proofs.Laws.{form-with-room, margin-by}
 use Rattle.word.specs.Word.{wordOf, countBelow}
 use Rattle.answer.specs.Bytes.{answerBytes, overwritten}
 use Rattle.problem.specs.Reduced.{Reduced, Same}
@@ -21,7 +26,7 @@ use Rattle.recovery.proofs.Settling.{settled}
 use Rattle.recovery_laws.proofs.Laws.{settled-unique}
 use Rattle.either_header.specs.EitherHeader.{SameJob, EitherHeader}
 use Rattle.either_header.specs.Unflagged.{plainWrong, Unflagged}
-use Rattle.either_header.proofs.Headers.{short-plain, longer-plain, bounds-same, numbers-same, outcome-same}
+use Rattle.either_header.proofs.Headers.{short-plain, longer-plain, speaking-same, df-same, bounds-same, numbers-same, outcome-same}
 
 module _ (s s' : List ℕ) (U : Unflagged s) (U' : Unflagged s') (bounds : boundsOf s' ≡ boundsOf s) (numbers : numberAt s' ≡ numberAt s) where
   -- the same rows are wrong
@@ -87,6 +92,18 @@ module _ (s s' : List ℕ) (J : SameJob s s') where
         report = u .report;
         untouched = u .untouched;
       }))
+
+  -- paper 02, item 7: the margin is the same too
+  pub margin-same : (wrong : ℕ) → marginOf s' wrong ≡ marginOf s wrong
+  margin-same wrong = margin-by s' wrong same ∙ by (formOutcomeOf s) ∙ sym (margin-by s wrong refl)
+    where
+      same : formOutcomeOf s' ≡ formOutcomeOf s
+      same = form-with-room s' ∙ outcome 254 ∙ sym (form-with-room s)
+
+      by : (o : Outcome) → marginBy o s' wrong ≡ marginBy o s wrong
+      by Accepted = rw (speaking-same s s' J, df-same s s' J, bounds) refl
+      by (Recovered bytes counted) = refl
+      by (Refused reason row) = refl
 
 -- the claim
 pub either-header : (s area s' area' : List ℕ) {r r' : Report} {after after' : List ℕ} → Settled s area r after → Settled s' area' r' after'

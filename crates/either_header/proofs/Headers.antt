@@ -15,6 +15,7 @@ use Rattle.lists.proofs.Tabulated.{tabulate-cong}
 use Rattle.field.specs.Primes.{primeOfCode}
 use Rattle.format.specs.Bounds.{numeratorBoundOf, largestBound}
 use Rattle.format.specs.declared.Bounds.{Bounds}
+use Rattle.marked_rows.specs.Marks.{speakingCount}
 use Rattle.format.proofs.Sizes.{largest-above, largest-most}
 use Rattle.cursor.specs.Bits.{fieldOf}
 use Rattle.cursor.proofs.Fields.{field-cong}
@@ -27,7 +28,7 @@ use Rattle.rows.specs.Rows.{numberAt}
 use Rattle.job.specs.Refusals.{byteCountDiffers, tooFewRows, outcomeOf}
 use Rattle.either_header.specs.EitherHeader.{SameJob}
 use Rattle.either_header.specs.Unflagged.{plainRowTests, item5Broken, item5Outcome, Unflagged}
-use Rattle.either_header.proofs.Unflagged.{unflagged, short-unset}
+use Rattle.either_header.proofs.Unflagged.{unflagged, all-speak, short-unset}
 
 eqb-plus : (a b k : ℕ) → eqb (a + k) (b + k) ≡ eqb a b
 eqb-plus a b k = by (ℕ-discrete a b)
@@ -44,7 +45,7 @@ module _ (s s' : List ℕ) (J : SameJob s s') where
   unfolding outputsOf
   outputs-same = ap (λ (x : ℕ). x + 1) (field-same 2 2 (omega arith))
 
-  df-same : dfOf s' ≡ dfOf s
+  pub df-same : dfOf s' ≡ dfOf s
   unfolding dfOf
   df-same = field-same 9 5 (omega arith)
 
@@ -102,6 +103,10 @@ module _ (s s' : List ℕ) (J : SameJob s s') where
 
   pub longer-plain : Unflagged s'
   longer-plain = unflagged s' (ap marksAllowed no-flags)
+
+  -- and all rows of both speak
+  pub speaking-same : speakingCount s' ≡ speakingCount s
+  speaking-same = all-speak s' (ap marksAllowed no-flags) ∙ ap (λ (b : Bounds). b .rows) bounds-same ∙ sym (all-speak s (short-unset s (J .short .1)))
 
   -- 4 bytes more
   pub length-same : length s' ≡ length s + 4

@@ -46,10 +46,13 @@ module _ (s : List ℕ) (unset : marksAllowed (flagsOf s) ≡ false) where
   broken-same =
       ap (λ x. eqb (headerLengthOf s) 7 && (not (eqb x 0) || boundsAbsent (boundsOf s) || not (eqb (dfOf s) (largestBound (boundsOf s) (boundsOf s .outputs))))) flags-below
 
+  pub all-speak : speakingCount s ≡ boundsOf s .rows
+  unfolding speakingCount
+  all-speak = count-all (boundsOf s .rows) (speaks s) (λ r. ap speaking (none r))
+
   -- so 12 applies where 4 does
   speaking-same : tooFewSpeaking s ≡ tooFewRows s
-  unfolding speakingCount
-  speaking-same = ap (λ m. ltb m (rowsNeededOf (headerOf s))) (count-all (boundsOf s .rows) (speaks s) (λ r. ap speaking (none r)))
+  speaking-same = ap (λ m. ltb m (rowsNeededOf (headerOf s))) all-speak
 
   range-same : firstBelow (boundsOf s .rows) (outOfRange s)
       ≡ firstBelow (boundsOf s .rows) (λ r. leb (primeOf (boundsOf s)) (jobPoint s r) || anyBelow (boundsOf s .outputs) (λ i. leb (primeOf (boundsOf s)) (jobValue s r i)))

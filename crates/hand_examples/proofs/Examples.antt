@@ -1,9 +1,10 @@
 -- The claim over the table, by one computation over all its entries.
-use mathlib.Core.Path.{_≡_, refl, ap, subst}
+use mathlib.Core.Path.{_≡_, refl, subst}
 use mathlib.Core.List.{List, [], _∷_, map}
 use Prim.Native.Nat.{ℕ}
 use lib.ListN.{length}
 use Rattle.lists.specs.Tabulated.{tabulate}
+use Rattle.lists.proofs.Maps.{same-maps}
 use Rattle.poly.specs.Operations.{
   valueOf,
   combinationAt,
@@ -64,23 +65,14 @@ computed e = resultOf (e .job) (e .room)
 abbrev expected : Example → Result
 expected e = record { report = e .report; bytes = e .bytes }
 
--- the first of a list, and the others
-abbrev firstOr : Result → List Result → Result
-firstOr d [] = d
-firstOr d (x ∷ xs) = x
-
-abbrev others : List Result → List Result
-others [] = []
-others (x ∷ xs) = xs
-
 -- where the definition gives what is expected at every entry, the claim holds
 each : (l : List Example) → map computed l ≡ map expected l → EveryHolds l
 each [] h = tt
-each (e ∷ l) h = (
-  (λ area n. subst (λ r. Settled (e .job) area (r .report) (overwritten (r .bytes) area)) (ap (firstOr (computed e)) h)
-      (result-settled (e .job) area (e .room) n)),
-  each l (ap others h),
-)
+each (e ∷ l) h =
+    let both = same-maps computed expected e l h in (
+      (λ area n. subst (λ r. Settled (e .job) area (r .report) (overwritten (r .bytes) area)) (both .0) (result-settled (e .job) area (e .room) n)),
+      each l (both .1),
+    )
 
 -- H1 to H12, and before them the two jobs of the enlargement rule's example and those of paper 02, item 6
 abbrev all : List Example

@@ -16,7 +16,7 @@ use Rattle.algebra.proofs.Ideal.{proportional, InIdeal}
 use Rattle.algebra.proofs.LowestTerms.{monic-nonnull}
 use Rattle.algebra.proofs.Reduced.{member-polynomial, ideal-of-reduced}
 use Rattle.method.proofs.Vectors.{ReducedVector, SameVector, same-if-multiple}
-use Rattle.method.proofs.Problem.{Evaluation, Problem, Silent, dec-silent, speakingBelow, Clear, Right, dec-right, wrongCount, Fits, Answer, Ample, ample-fits}
+use Rattle.method.proofs.Problem.{Evaluation, Silent, dec-silent, speakingBelow, Clear, Right, dec-right, wrongCount, Fits}
 
 module _ (F : Field) {n : ℕ} {bound : ℕ → ℕ} {dg : ℕ} {f f' : ℕ → Series (F .ring)} {g g' : Series (F .ring)}
     (v : ReducedVector F n bound dg f g) (v' : ReducedVector F n bound dg f' g') where
@@ -113,10 +113,3 @@ module _ (F : Field) {n : ℕ} {bound : ℕ → ℕ} {dg : ℕ} {f f' : ℕ → 
             → SameVector F n f g f' g' ⊎ (speakingBelow F n row L ≤ df + dg + wrongCount F N n f g row L + wrongCount F N n f' g' row L)
         by (yes few) = inr few
         by (no many) = inl (same-if-many (λ i l. let h = largest i l in omega arith))
-
--- a problem with enough rows has at most one answer
-pub unique : (F : Field) (N : ℕ) (T : Problem (F .ring)) → Ample F T → T .count < N → {f f' : ℕ → Series (F .ring)} {g g' : Series (F .ring)}
-    → Answer F N T f g → Answer F N T f' g' → (g ≡ g') × ((i : ℕ) → i < T .outputs → f i ≡ f' i)
-unique F N T H capacity a a' =
-    same-if-many F (a .vector) (a' .vector) (ample-fits F N T H capacity) (T .row) (T .count) (H .distinct) (H .clear)
-    (λ i l. let e = H .enough i l in let w = a .few-wrong in let w' = a' .few-wrong in omega arith)

@@ -16,7 +16,7 @@ use Rattle.header.proofs.Fields.{storable}
 use Rattle.job.specs.Refusals.{outcomeOf}
 use Rattle.job.specs.Reading.{readingWith, readingOf}
 use Rattle.answer.specs.Bytes.{overwritten}
-use Rattle.recovery.specs.Recovery.{Settled}
+use Rattle.recovered_margin.specs.RecoveredMargin.{RecoveredMargin}
 use Rattle.text.specs.declared.Written.{Written}
 use Rattle.text.specs.declared.Written.the-variants.{Bytes}
 use Rattle.text.specs.Text.{isStorable, textOf, writtenOf, bufferAfter}
@@ -35,32 +35,33 @@ reading-storable s room = by-outcome (outcomeOf s room)
 
 -- the call that writes the text answers w and leaves the buffer as `after`
 module _
-    (s area left old after : List ℕ) (outcome : Outcome) (b : Bounds) (w : Written)
+    (s area left old after : List ℕ) (outcome : Outcome) (b : Bounds) (margin : ℕ) (w : Written)
     (known : b ≡ readingOf s (length area) .bounds) (room : 1280 ≤ length old)
-    (answer : w ≡ writtenOf b outcome left (length old)) (buffer : after ≡ bufferAfter b outcome left old)
-    (short : isStorable b ≡ true → length (textOf b outcome left) ≤ 1280) where
+    (answer : w ≡ writtenOf b outcome margin left (length old)) (buffer : after ≡ bufferAfter b outcome margin left old)
+    (short : isStorable b ≡ true → length (textOf b outcome margin left) ≤ 1280) where
   good : isStorable b ≡ true
   good = ap isStorable known ∙ reading-storable s (length area)
 
-  told : (Bytes (length (textOf b outcome left)) ≡ writtenOf b outcome left (length old))
-      × (overwritten (textOf b outcome left) old ≡ bufferAfter b outcome left old)
-  told = told-bytes b outcome left old good (length (textOf b outcome left)) refl (omega (arith, short good))
+  told : (Bytes (length (textOf b outcome margin left)) ≡ writtenOf b outcome margin left (length old))
+      × (overwritten (textOf b outcome margin left) old ≡ bufferAfter b outcome margin left old)
+  told = told-bytes b outcome margin left old good (length (textOf b outcome margin left)) refl (omega (arith, short good))
 
   -- neither too short nor malformed
-  pub always-written : w ≡ Bytes (length (textOf b outcome left))
+  pub always-written : w ≡ Bytes (length (textOf b outcome margin left))
   always-written = answer ∙ sym (told .0)
 
-  pub printed : Settled s area (reportOf outcome) left → (n : ℕ) → w ≡ Bytes n → Printed s area left old n after
-  printed settled n is =
-      let text = textFor s (length area) outcome left in
-      let same : textOf b outcome left ≡ text = ap (λ bounds. textOf bounds outcome left) known in
+  pub printed : RecoveredMargin s area (reportOf outcome) left margin → (n : ℕ) → w ≡ Bytes n → Printed s area left old n after
+  printed measured n is =
+      let text = textFor s (length area) outcome margin left in
+      let same : textOf b outcome margin left ≡ text = ap (λ bounds. textOf bounds outcome margin left) known in
       let whole = always-written in
-      let size : n ≡ length (textOf b outcome left) = cc in
+      let size : n ≡ length (textOf b outcome margin left) = cc in
       let holds : after ≡ overwritten text old = buffer ∙ sym (told .1) ∙ ap (λ l. overwritten l old) same in
       let within : n ≤ length after = omega (arith, ap length holds, length-append text (drop (length text) old), ap length same) in
       record {
         outcome = outcome;
-        settled = settled;
+        margin = margin;
+        measured = measured;
         size = size ∙ ap length same;
         written = holds;
         counted = (within, sym (length-take-le n after within));

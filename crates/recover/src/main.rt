@@ -12,10 +12,12 @@ fn recovered_text(bytes: &[u8], area: &mut [u8], buffer: &mut [u8]) -> usize
     ensures { λ r.
         ⌜ Printed (now (bytes .entry)) (now (area .entry)) (now (area .exit)) (now (buffer .entry)) r (now (buffer .exit)) ⌝ }
 {
-    let outcome = recovery::recover(bytes, area);
+    let measured = recovered_margin::recover_with_margin(bytes, area);
+    let outcome = measured.recovery;
+    let margin = measured.margin;
     let reading = job::read(bytes, area.len());
     let bounds = reading.bounds;
-    match text::write_text(bounds, outcome, area, buffer) {
+    match text::write_text(bounds, outcome, margin, area, buffer) {
         Written::Bytes(count) => count,
         Written::TooShort => 0,
         Written::Malformed => 0,

@@ -62,9 +62,10 @@ module _ (s : List ℕ) (bytes : (k : ℕ) → getD s k 0 < 256) where
         output-line i start bound (omega (arith, fits .few)) (omega (arith, fits .numerators-low i few)),
       )
 
-  pub recovered-short : (b : Bounds) → Storable b → (wrong : ℕ) → wrong < 2 ^ 32 → length (recoveredText b wrong s) < textRoom
-  recovered-short b fits wrong low =
+  pub recovered-short : (b : Bounds) → Storable b → (wrong margin : ℕ) → wrong < 2 ^ 32 → margin < 2 ^ 32 → length (recoveredText b wrong margin s) < textRoom
+  recovered-short b fits wrong margin low low-margin =
       let count = decimal-few wrong 9 (omega arith) in
+      let last = decimal-few margin 9 (omega arith) in
       let rows = row-items 32 0 (marked (wordFrom s)) (omega arith) in
       let line = line-items (coefficientFrom s 4) (coefficient-low 4) (b .dg) (omega (arith, fits .denominator-low)) in
       let outputs = output-lines b fits (b .outputs) (omega arith) in

@@ -35,18 +35,18 @@ storable-true b e =
       numerators-low = λ i l. (let low = leb-true (largestBound b (b .outputs)) 31 (all .1) in omega (arith, largest-above b (b .outputs) i l));
     }
 
-module _ (b : Bounds) (outcome : Outcome) (s old : List ℕ) where
+module _ (b : Bounds) (outcome : Outcome) (margin : ℕ) (s old : List ℕ) where
   -- the answer r and the buffer's contents are those of the definitions
   abbrev pub Told : Written → List ℕ → Type 0
-  Told r after = (r ≡ writtenOf b outcome s (length old)) × (after ≡ bufferAfter b outcome s old)
+  Told r after = (r ≡ writtenOf b outcome margin s (length old)) × (after ≡ bufferAfter b outcome margin s old)
 
   pub told-malformed : isStorable b ≡ false → Told Malformed old
   told-malformed bad = (rw bad, rw bad)
 
-  pub told-short : isStorable b ≡ true → length old < length (textOf b outcome s) → Told TooShort old
-  told-short good short = let test = lt-leb (length (textOf b outcome s)) (length old) short in (rw (good, test), rw (good, test))
+  pub told-short : isStorable b ≡ true → length old < length (textOf b outcome margin s) → Told TooShort old
+  told-short good short = let test = lt-leb (length (textOf b outcome margin s)) (length old) short in (rw (good, test), rw (good, test))
 
-  pub told-bytes : isStorable b ≡ true → (n : ℕ) → n ≡ length (textOf b outcome s) → n ≤ length old → Told (Bytes n) (overwritten (textOf b outcome s) old)
+  pub told-bytes : isStorable b ≡ true → (n : ℕ) → n ≡ length (textOf b outcome margin s) → n ≤ length old → Told (Bytes n) (overwritten (textOf b outcome margin s) old)
   told-bytes good n size room =
-      let test = le-leb (length (textOf b outcome s)) (length old) (omega arith) in
+      let test = le-leb (length (textOf b outcome margin s)) (length old) (omega arith) in
       (rw (size, good, test), rw (good, test))

@@ -22,6 +22,10 @@ lineFeed = 10 ∷ []
 abbrev pub outputLabel : List ℕ
 outputLabel = 102 ∷ []
 
+-- "margin"
+abbrev pub marginLabel : List ℕ
+marginLabel = 109 ∷ 97 ∷ 114 ∷ 103 ∷ 105 ∷ 110 ∷ []
+
 -- the wrong ones of the n rows from row r on, rising, a space before each
 unfoldable pub rowItems : ℕ → ℕ → (ℕ → Bool) → List ℕ
 rowItems zero r wrong = []
@@ -54,3 +58,7 @@ outputLineFrom s i start bound = outputLabel ++ decimalOf (i + 1) ++ coefficient
 unfoldable pub outputLines : Bounds → List ℕ → ℕ → List ℕ
 outputLines b s zero = []
 outputLines b s (suc i) = outputLines b s i ++ outputLineFrom s i (numeratorStart b i) (numeratorBoundOf b i)
+
+-- paper 02, item 7: "a last line margin with" the number
+abbrev pub marginLine : ℕ → List ℕ
+marginLine margin = marginLabel ++ itemOf margin ++ lineFeed

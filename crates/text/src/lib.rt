@@ -18,6 +18,7 @@ use draft::put_item;
 use draft::put_label;
 use format::Bounds;
 use format::Outcome;
+use lines::put_margin;
 use lines::put_outputs;
 use lines::put_polynomial;
 use lines::put_rows;
@@ -44,10 +45,10 @@ fn storable(b: Bounds) -> bool
     b.largest_bound(b.outputs) <= 31
 }
 
-// The text of an answer whose bytes stand in the area.
-fn recovered(b: Bounds, wrong: u32, area: &[u8]) -> Draft
+// The text of an answer with this margin whose bytes stand in the area.
+fn recovered(b: Bounds, wrong: u32, margin: u32, area: &[u8]) -> Draft
     requires { ⌜ Storable b ⌝ }
-    ensures { λ r. ⌜ Spells r (recoveredText b wrong (now (area .entry))) ⌝ }
+    ensures { λ r. ⌜ Spells r (recoveredText b wrong margin (now (area .entry))) ⌝ }
 {
     let named = put_label(empty(), b"recovered ");
     let first = put_byte(put_decimal(named, wrong), b'\n');
@@ -55,7 +56,7 @@ fn recovered(b: Bounds, wrong: u32, area: &[u8]) -> Draft
     let second = put_byte(listing, b'\n');
     let dg = b.dg;
     let third = put_polynomial(put_label(second, b"g"), area, 4, dg);
-    put_outputs(third, area, b)
+    put_margin(put_outputs(third, area, b), margin)
 }
 
 fn refused(number: u32, row: u32) -> Draft
@@ -63,17 +64,17 @@ fn refused(number: u32, row: u32) -> Draft
 {
     let named = put_label(empty(), b"refused ");
     let numbered = put_item(put_decimal(named, number), row);
-    put_byte(numbered, b'\n')
+    put_label(numbered, b"\n")
 }
 
 // An accepted job has no text yet.
-fn text_of(b: Bounds, outcome: Outcome, area: &[u8]) -> Draft
+fn text_of(b: Bounds, outcome: Outcome, margin: u32, area: &[u8]) -> Draft
     requires { ⌜ Storable b ⌝ }
-    ensures { λ r. ⌜ Spells r (textOf b outcome (now (area .entry))) ⌝ }
+    ensures { λ r. ⌜ Spells r (textOf b outcome margin (now (area .entry))) ⌝ }
 {
     match outcome {
         Outcome::Accepted => empty(),
-        Outcome::Recovered { bytes: _, wrong } => recovered(b, wrong, area),
+        Outcome::Recovered { bytes: _, wrong } => recovered(b, wrong, margin, area),
         Outcome::Refused { reason, row } => {
             let number = format::number(reason);
             refused(number, row)
@@ -81,18 +82,24 @@ fn text_of(b: Bounds, outcome: Outcome, area: &[u8]) -> Draft
     }
 }
 
-// Writes the text of an outcome to the buffer's start. The area holds the answer's bytes where there is one; a byte past its end
-// is read as 0. Where no text is written, the buffer keeps its contents. A buffer of 1280 bytes has room for any text.
-pub fn write_text(bounds: Bounds, outcome: Outcome, area: &[u8], buffer: &mut [u8]) -> Written
+// Writes the text of an outcome to the buffer's start, with this margin where it is recovered. The area holds the answer's bytes
+// where there is one; a byte past its end is read as 0. Where no text is written, the buffer keeps its contents. A buffer of 1280 bytes has room for any text.
+pub fn write_text(
+    bounds: Bounds,
+    outcome: Outcome,
+    margin: u32,
+    area: &[u8],
+    buffer: &mut [u8],
+) -> Written
     ensures { λ r.
-        ⌜ (r ≡ writtenOf bounds outcome (now (area .entry)) (length (now (buffer .entry))))
-        × (now (buffer .exit) ≡ bufferAfter bounds outcome (now (area .entry)) (now (buffer .entry)))
-        × (isStorable bounds ≡ true → length (textOf bounds outcome (now (area .entry))) ≤ textRoom) ⌝ }
+        ⌜ (r ≡ writtenOf bounds outcome margin (now (area .entry)) (length (now (buffer .entry))))
+        × (now (buffer .exit) ≡ bufferAfter bounds outcome margin (now (area .entry)) (now (buffer .entry)))
+        × (isStorable bounds ≡ true → length (textOf bounds outcome margin (now (area .entry))) ≤ textRoom) ⌝ }
 {
     if !storable(bounds) {
         return Written::Malformed;
     }
-    let text = text_of(bounds, outcome, area);
+    let text = text_of(bounds, outcome, margin, area);
     let count = text.count;
     if buffer.len() < count {
         return Written::TooShort;

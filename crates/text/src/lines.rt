@@ -6,7 +6,7 @@ ghost use Rattle.format.specs.Numbers.{numberFrom, wordFrom};
 ghost use Rattle.format.specs.Bounds.{Storable};
 ghost use Rattle.word.specs.Word.{marked};
 ghost use Rattle.text.specs.Drafts.{held, extended};
-ghost use Rattle.text.specs.Lines.{longestAnswer, rowItems, coefficientFrom, degreeWithin, itemsBelow, coefficientsLine, outputLineFrom, outputLines};
+ghost use Rattle.text.specs.Lines.{longestAnswer, rowItems, coefficientFrom, degreeWithin, itemsBelow, coefficientsLine, outputLineFrom, outputLines, marginLine};
 use crate::draft::Draft;
 use crate::draft::put_byte;
 use crate::draft::put_decimal;
@@ -122,4 +122,12 @@ pub fn put_outputs(draft: Draft, area: &[u8], b: Bounds) -> Draft
         start = start + 2 * (bound + 1);
     }
     r
+}
+
+// Paper 02, item 7: the last line.
+pub fn put_margin(draft: Draft, margin: u32) -> Draft
+    ensures { λ r. ⌜ held r ≡ extended draft (marginLine margin) ⌝ }
+{
+    let named = put_label(draft, b"margin");
+    put_byte(put_item(named, margin), b'\n')
 }

@@ -70,6 +70,12 @@ impl Job {
         self.speaking().saturating_sub(self.needed_rows())
     }
 
+    /// S − df − dg − 2W, where S rows speak and W of them are wrong: the margin, or a number below 1.
+    pub fn margin(&self, wrong: u32) -> i64 {
+        let bounds = self.numerator_bound() + self.denominator_bound;
+        self.speaking() as i64 - bounds as i64 - 2 * i64::from(wrong)
+    }
+
     /// Whether a row has a point of p or more, or such a value that is no part of a mark.
     pub fn is_out_of_range(&self, row: &Row) -> bool {
         let is_large = |number: &u32| *number >= self.prime();

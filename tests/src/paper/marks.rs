@@ -182,5 +182,5 @@ pub const NOT_ANSWERS_WITH_MARKS: [(&str, &str); 11] = [
     ),
 ];
 
-/// What the printing program writes for two outputs and a pole.
-pub const POLE_PRINTED: &str = "recovered 0\nwrong\ng 3 1\nf1 4\nf2 2\n";
+/// What the printing program writes for two outputs and a pole; two rows speak, and dg is 1.
+pub const POLE_PRINTED: &str = "recovered 0\nwrong\ng 3 1\nf1 4\nf2 2\nmargin 1\n";

@@ -4,12 +4,14 @@
 mod check;
 mod field;
 mod interpolate;
+mod margin;
 mod polynomial;
 mod reader;
 
 pub use check::check;
 use hanthuvelo::Report;
 use interpolate::{interpolate, Conditions};
+pub use margin::margin;
 use polynomial::Polynomial;
 use reader::{Problem, Said};
 

@@ -2,13 +2,14 @@
 //!
 //! It shares no code with the library or with `plain`, and its method is another one. It reads the
 //! job bytes, tests the refusals, solves by Gaussian elimination and writes the answer by itself.
-//! Beside it the second writer of trial jobs, the second reciprocal, the second judge and the second
-//! check of a job's form, as separate.
+//! Beside it the second margin, the second writer of trial jobs, the second reciprocal, the second
+//! judge and the second check of a job's form, as separate.
 
 mod check;
 mod equations;
 mod field;
 mod judge;
+mod margin;
 pub mod polynomial;
 mod reader;
 mod reciprocal;
@@ -20,6 +21,7 @@ pub use check::check;
 pub use field::Field;
 use hanthuvelo::Report;
 pub use judge::judge;
+pub use margin::margin;
 use polynomial::Polynomial;
 use reader::{Problem, Row, Said};
 pub use reciprocal::reciprocal;

@@ -43,6 +43,13 @@ pub struct Problem {
     pub rows: Vec<Row>,
 }
 
+impl Problem {
+    /// How many rows say something.
+    pub fn speaking(&self) -> usize {
+        self.rows.iter().filter(|row| row.speaks()).count()
+    }
+}
+
 /// The fields of the three or seven bytes that a job begins with.
 pub struct Header {
     /// How many bytes it has.
@@ -97,8 +104,7 @@ pub fn read_form(bytes: &[u8]) -> Result<Problem, Refusal> {
         error_bound: header.error_bound,
     };
     refuse_row(first_row_out_of_range(&problem), 5)?;
-    let speaking = problem.rows.iter().filter(|row| row.speaks()).count();
-    refuse_if(speaking < needed, 12, 0)?;
+    refuse_if(problem.speaking() < needed, 12, 0)?;
     refuse_row(first_row_with_used_point(&problem), 6)?;
     Ok(problem)
 }

@@ -1,5 +1,6 @@
 //! What the printing program writes for an input.
 
+use super::margin::difference;
 use super::polynomial::Polynomial;
 use super::{reader, solve};
 use std::fmt::Write;
@@ -34,7 +35,8 @@ pub fn printed(input: &[u8]) -> String {
             &printed_coefficients(numerator),
         );
     }
-    text
+    let margin = difference(&problem, wrong.len() as u32);
+    text + &format!("margin {margin}\n")
 }
 
 fn printed_coefficients(polynomial: &Polynomial) -> Vec<u32> {

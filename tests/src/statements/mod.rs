@@ -14,7 +14,7 @@ use std::path::{Path, PathBuf};
 use walk::Walk;
 
 /// The functions whose contracts are the demands and the requests, each in the sources of its crate.
-pub const ROOTS: [(&str, &str); 17] = [
+pub const ROOTS: [(&str, &str); 20] = [
     ("recovery", "recover"),
     ("enlargement", "recover_both"),
     ("capi", "hanthuvelo_recover"),
@@ -30,6 +30,9 @@ pub const ROOTS: [(&str, &str); 17] = [
     ("checked_recovery", "check_and_recover"),
     ("capi", "hanthuvelo_check"),
     ("either_header", "recover_either"),
+    ("margin", "margin"),
+    ("recovered_margin", "recover_with_margin"),
+    ("capi", "hanthuvelo_margin"),
     ("row_word", "word_from"),
     ("row_word", "part"),
 ];

@@ -4,6 +4,7 @@ use mathlib.Core.List.{List}
 use lib.ListN.{length}
 use borrow.Author.Needs.{needs}
 use Rattle.lists.proofs.Truth.{clash}
+use Rattle.recovered_margin.specs.declared.Measured.{Measured}
 use Rattle.job.specs.declared.reading.Reading.{Reading}
 use Rattle.job.specs.Reading.{readingOf}
 use Rattle.text.specs.declared.Written.the-variants.{Bytes}
@@ -18,33 +19,36 @@ module _ (v : tie.After-write-text) where
   abbrev reading : tie.After-read
   reading = v .before .before .before .before
 
-  abbrev recovering : tie.After-recover
+  abbrev recovering : tie.After-recover-with-margin
   recovering = reading .before .before .before
+
+  abbrev found : Measured
+  found = recovering .recover-with-margin .result
 
   abbrev start : tie.Start
   start = recovering .before .before .before .before .before
 
   abbrev left : List ℕ
-  left = recovering .recover .last .1 .0
+  left = recovering .recover-with-margin .last .1 .0
 
   known : reading .read .result .bounds ≡ readingOf (start .args .bytes .now) (length (start .args .area .now)) .bounds
   known =
       ap (λ (r : Reading). r .bounds) (reading .read .ensures)
-      ∙ ap (λ room. readingOf (start .args .bytes .now) room .bounds) (recovering .recover .kept .1 .0)
+      ∙ ap (λ room. readingOf (start .args .bytes .now) room .bounds) (recovering .recover-with-margin .kept .1 .0)
 
-  written : v .write-text .result ≡ Bytes (length (textOf (reading .read .result .bounds) (recovering .recover .result) left))
+  written : v .write-text .result ≡ Bytes (length (textOf (reading .read .result .bounds) (found .recovery) (found .margin) left))
   written =
       let told = v .write-text .ensures in
-      always-written (start .args .bytes .now) (start .args .area .now) left (start .args .buffer .now) (v .write-text .last .1 .1 .1 .0)
-      (recovering .recover .result) (reading .read .result .bounds) (v .write-text .result) known (start .pre) (told .0) (told .1) (told .2)
+      always-written (start .args .bytes .now) (start .args .area .now) left (start .args .buffer .now) (v .write-text .last .1 .1 .1 .1 .0)
+      (found .recovery) (reading .read .result .bounds) (found .margin) (v .write-text .result) known (start .pre) (told .0) (told .1) (told .2)
 
   result : (n : ℕ) → v .write-text .result ≡ Bytes n
-      → Printed (start .args .bytes .now) (start .args .area .now) left (start .args .buffer .now) n (v .write-text .last .1 .1 .1 .0)
+      → Printed (start .args .bytes .now) (start .args .area .now) left (start .args .buffer .now) n (v .write-text .last .1 .1 .1 .1 .0)
   result n is =
       let told = v .write-text .ensures in
-      printed (start .args .bytes .now) (start .args .area .now) left (start .args .buffer .now) (v .write-text .last .1 .1 .1 .0)
-      (recovering .recover .result) (reading .read .result .bounds) (v .write-text .result) known (start .pre) (told .0) (told .1) (told .2)
-      (recovering .recover .ensures) n is
+      printed (start .args .bytes .now) (start .args .area .now) left (start .args .buffer .now) (v .write-text .last .1 .1 .1 .1 .0)
+      (found .recovery) (reading .read .result .bounds) (found .margin) (v .write-text .result) known (start .pre) (told .0) (told .1) (told .2)
+      (recovering .recover-with-margin .ensures) n is
 
 returns : tie.Need-returns
 returns c = result (c .before .before .before .before .before) _ (c .before .count .given .1)

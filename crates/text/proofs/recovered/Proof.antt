@@ -7,7 +7,7 @@ use Rattle.format.specs.Numbers.{wordFrom}
 use Rattle.word.specs.Word.{marked}
 use Rattle.text.specs.Drafts.{textRoom, extended}
 use Rattle.text.specs.Decimal.{decimalOf}
-use Rattle.text.specs.Lines.{lineFeed, rowItems, coefficientFrom, coefficientsLine, outputLines}
+use Rattle.text.specs.Lines.{lineFeed, rowItems, coefficientFrom, coefficientsLine, outputLines, marginLine}
 use Rattle.text.specs.Text.{recoveredLabel, wrongLabel, denominatorLabel, recoveredText}
 use Rattle.text.proofs.Puts.{put-onto, held-whole}
 use Rattle.text.proofs.Lengths.{recovered-short}
@@ -25,12 +25,13 @@ put-polynomial-requires c κs =
 put-outputs-requires : tie.Need-put-outputs-requires
 put-outputs-requires c κs = c .before .before .before .before .before .before .before .before .before .before .before .before .before .before .pre
 
-whole : (c : tie.After-put-outputs) → length (c .put-outputs .result .bytes) ≡ textRoom
-whole c = let ok = c .put-outputs .ok in search needs
+whole : (c : tie.After-put-margin) → length (c .put-margin .result .bytes) ≡ textRoom
+whole c = let ok = c .put-margin .ok in search needs
 
 returns : tie.Need-returns
 returns c =
-    let third = c .before in
+    let outputs = c .before in
+    let third = outputs .before in
     let named-third = third .before in
     let second = named-third .before .before in
     let listing = second .before in
@@ -44,12 +45,14 @@ returns c =
     let s = known .before in
     let b = s .args .b in
     let wrong = s .args .wrong in
+    let margin = s .args .margin in
     let area = s .args .area .now in
     let rows = rowItems 32 0 (marked (wordFrom area)) in
     let line = coefficientsLine (coefficientFrom area 4) (b .dg) in
     let one = recoveredLabel ++ decimalOf wrong ++ lineFeed in
     let two = one ++ wrongLabel ++ rows ++ lineFeed in
     let three = two ++ denominatorLabel ++ line in
+    let four = three ++ outputLines b area (b .outputs) in
     let e1 = put-onto [] recoveredLabel (none .empty .ensures .0) (named-first .put-label .ensures) in
     let e2 = put-onto recoveredLabel (decimalOf wrong) e1 (counted .put-decimal .ensures (suc wrong) (lt-suc-self wrong)) in
     let e3 = put-onto (recoveredLabel ++ decimalOf wrong) lineFeed e2 (first .put-byte .ensures) in
@@ -59,9 +62,10 @@ returns c =
     let e6 = put-onto (one ++ wrongLabel ++ rows) lineFeed e5 (second .put-byte2 .ensures) in
     let e7 = put-onto two denominatorLabel e6 (named-third .put-label3 .ensures) in
     let e8 = put-onto (two ++ denominatorLabel) line e7 (third .put-polynomial .ensures) in
-    let e9 = put-onto three (outputLines b area (b .outputs)) e8 (c .put-outputs .ensures) in
-    held-whole (c .put-outputs .result .bytes) (whole c) (c .put-outputs .result .count) (recoveredText b wrong area)
-    (recovered-short area (λ k. known .shared-slice-known .given k .fits) b (s .pre) wrong (s .fits .wrong .fits)) e9
+    let e9 = put-onto three (outputLines b area (b .outputs)) e8 (outputs .put-outputs .ensures) in
+    let e10 = put-onto four (marginLine margin) e9 (c .put-margin .ensures) in
+    held-whole (c .put-margin .result .bytes) (whole c) (c .put-margin .result .count) (recoveredText b wrong margin area)
+    (recovered-short area (λ k. known .shared-slice-known .given k .fits) b (s .pre) wrong margin (s .fits .wrong .fits) (s .fits .margin .fits)) e10
 
 pub recovered-spec : {M : Type 1} → statement M
 recovered-spec =
@@ -81,4 +85,5 @@ recovered-spec =
     (λ c κs. search needs)
     put-polynomial-requires
     put-outputs-requires
+    (λ c κs. search needs)
     returns)

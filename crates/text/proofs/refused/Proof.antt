@@ -13,12 +13,12 @@ use borrow.Author.Needs.{needs}
 use Rattle.text.proofs.refused.Statement.{statement}
 use Rattle.text.proofs.refused.Tie as tie
 
-whole : (c : tie.After-put-byte) → length (c .put-byte .result .bytes) ≡ textRoom
-whole c = let ok = c .put-byte .ok in search needs
+whole : (c : tie.After-put-label2) → length (c .put-label2 .result .bytes) ≡ textRoom
+whole c = let ok = c .put-label2 .ok in search needs
 
 returns : tie.Need-returns
 returns c =
-    let item = c .before in
+    let item = c .before .before in
     let decimal = item .before in
     let label = decimal .before in
     let none = label .before .before in
@@ -28,8 +28,8 @@ returns c =
     let one = put-onto [] refusedLabel (none .empty .ensures .0) (label .put-label .ensures) in
     let two = put-onto refusedLabel (decimalOf number) one (decimal .put-decimal .ensures (suc number) (lt-suc-self number)) in
     let three = put-onto (refusedLabel ++ decimalOf number) (itemOf row) two (item .put-item .ensures) in
-    let four = put-onto (refusedLabel ++ decimalOf number ++ itemOf row) lineFeed three (c .put-byte .ensures) in
-    held-whole (c .put-byte .result .bytes) (whole c) (c .put-byte .result .count) (refusedText number row)
+    let four = put-onto (refusedLabel ++ decimalOf number ++ itemOf row) lineFeed three (c .put-label2 .ensures) in
+    held-whole (c .put-label2 .result .bytes) (whole c) (c .put-label2 .result .count) (refusedText number row)
     (refused-short number row (s .fits .number .fits) (s .fits .row .fits)) four
 
 pub refused-spec : {M : Type 1} → statement M
@@ -41,5 +41,6 @@ refused-spec =
     (λ c κs. search needs)
     (λ c κs. search needs)
     (λ c κs. search needs)
+    (λ c. search needs)
     (λ c κs. search needs)
     returns)

@@ -8,13 +8,13 @@ use Rattle.text.proofs.text_of.Tie as tie
 returns-2 : tie.Need-returns-2
 returns-2 c =
     let s = c .before .before .before .before .before .args in
-    subst (λ o. Spells (c .recovered .result) (textOf (s .b) o (s .area .now))) (sym (c .before .before .outcome .given .1)) (c .recovered .ensures)
+    subst (λ o. Spells (c .recovered .result) (textOf (s .b) o (s .margin) (s .area .now))) (sym (c .before .before .outcome .given .1)) (c .recovered .ensures)
 
 returns-3 : tie.Need-returns-3
 returns-3 c =
     let s = c .before .before .before .before .before .before .args in
     let line = rw (c .before .number .ensures) at (c .refused .ensures) in
-    subst (λ o. Spells (c .refused .result) (textOf (s .b) o (s .area .now))) (sym (c .before .before .before .outcome2 .given .1)) line
+    subst (λ o. Spells (c .refused .result) (textOf (s .b) o (s .margin) (s .area .now))) (sym (c .before .before .before .outcome2 .given .1)) line
 
 pub text-of-spec : {M : Type 1} → statement M
 text-of-spec =

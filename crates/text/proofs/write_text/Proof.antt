@@ -14,7 +14,7 @@ returns : tie.Need-returns
 returns c =
     let g = c .before .before .before .before .args in
     let bad = sym (c .before .storable .ensures) ∙ not-true _ (c .if1 .taken) in
-    let told = told-malformed (g .bounds) (g .outcome) (g .area .now) (g .buffer .now) bad in
+    let told = told-malformed (g .bounds) (g .outcome) (g .margin) (g .area .now) (g .buffer .now) bad in
     (told .0, told .1, λ e. clash (sym e ∙ bad))
 
 good : (c : tie.Else1) → isStorable (c .before .before .before .before .args .bounds) ≡ true
@@ -27,7 +27,7 @@ returns-2 : tie.Need-returns-2
 returns-2 c =
     let passed = c .before .before in
     let g = passed .before .before .before .before .args in
-    let told = told-short (g .bounds) (g .outcome) (g .area .now) (g .buffer .now) (good passed) (omega arith) in
+    let told = told-short (g .bounds) (g .outcome) (g .margin) (g .area .now) (g .buffer .now) (good passed) (omega arith) in
     (told .0, told .1, λ e. omega arith)
 
 returns-3 : tie.Need-returns-3
@@ -37,7 +37,7 @@ returns-3 c =
     let g = passed .before .before .before .before .args in
     let text = made .text-of .ensures in
     let copied = c .before .before .copy-out .ensures in
-    let told = told-bytes (g .bounds) (g .outcome) (g .area .now) (g .buffer .now) (good passed) (c .before .before .copy-out .result) (copied .0 ∙ text .1) (omega arith) in
+    let told = told-bytes (g .bounds) (g .outcome) (g .margin) (g .area .now) (g .buffer .now) (good passed) (c .before .before .copy-out .result) (copied .0 ∙ text .1) (omega arith) in
     (told .0, copied .1 ∙ ap (λ l. overwritten l (g .buffer .now)) (text .0) ∙ told .1, λ e. omega arith)
 
 pub write-text-spec : {M : Type 1} → statement M

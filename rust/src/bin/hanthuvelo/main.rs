@@ -40,7 +40,7 @@ struct Verb {
 const VERBS: [Verb; 8] = [
     Verb {
         name: "recover",
-        summary: "the fractions and the wrong rows of jobs",
+        summary: "the fractions, the wrong rows and the margin of jobs",
         help: recover::HELP,
         run: recover::run,
     },

@@ -14,7 +14,8 @@ pub const HELP: &str = concat!(
 usage: hanthuvelo recover [OPTION].. FILE..
 
 Prints for each job the outputs as fractions and the wrong rows with their points, or the refusal in words. Rows that
-report a pole and silent rows are listed too, where there are any.
+report a pole and silent rows are listed too, where there are any. The margin says how sure an answer is: every other one
+within the bounds leaves at least that many rows more wrong.
 ",
     files_help!(),
     "
@@ -57,12 +58,15 @@ impl Format {
         }
     }
 
-    fn add_answer(self, place: &Place, job: &[u8], written: &[u8], results: &mut Results) {
+    /// Adds the bytes that were written for a job, of which so many rows are wrong.
+    fn add_answer(self, place: &Place, job: &[u8], found: (&[u8], u32), results: &mut Results) {
+        let (written, wrong) = found;
+        let read = || Recovered::read(job, written, wrong);
         let text = match self {
             Format::Bytes => return results.add_passed_bytes(written),
             Format::Hex => Ok(hex::text(written) + "\n"),
-            Format::Text => Recovered::read(job, written).map(|read| read.text(place)),
-            Format::Json => Recovered::read(job, written).map(|read| read.json(place)),
+            Format::Text => read().map(|read| read.text(place)),
+            Format::Json => read().map(|read| read.json(place)),
         };
         match text {
             Ok(text) => results.add_passed(text),
@@ -93,7 +97,10 @@ impl Work for Format {
         let report = hanthuvelo::recover(job, &mut area);
         match Refusal::of(report, job) {
             Some(refusal) => results.add_refusal(self.refusals(), place, &refusal),
-            None => self.add_answer(place, job, &area[..report.written as usize], results),
+            None => {
+                let written = &area[..report.written as usize];
+                self.add_answer(place, job, (written, report.wrong), results);
+            }
         }
     }
 }

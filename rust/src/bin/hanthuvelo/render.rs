@@ -42,14 +42,20 @@ impl Display for Place<'_> {
 pub struct Recovered {
     job: Job,
     answer: Answer,
+    margin: u32,
 }
 
 impl Recovered {
-    /// The job in `bytes` with the answer that was written for it.
-    pub fn read(bytes: &[u8], written: &[u8]) -> Result<Recovered, FormatError> {
+    /// The job in `bytes` with the answer that was written for it, of which so many rows were reported wrong.
+    pub fn read(bytes: &[u8], written: &[u8], wrong: u32) -> Result<Recovered, FormatError> {
         let job = Job::unpack(bytes)?;
         let answer = Answer::unpack(written, job.bounds(), job.rows().len())?;
-        Ok(Recovered { job, answer })
+        let margin = hanthuvelo::margin(bytes, wrong);
+        Ok(Recovered {
+            job,
+            answer,
+            margin,
+        })
     }
 
     /// Each wrong row with its point.
@@ -84,7 +90,7 @@ impl Recovered {
                 text += &rows_line(name, &rows);
             }
         }
-        text
+        text + &format!("  margin: {}\n", self.margin)
     }
 
     pub fn json(&self, place: &Place) -> String {
@@ -101,11 +107,11 @@ impl Recovered {
         let g = json_polynomial(&self.answer.denominator);
         let f = self.answer.numerators.iter();
         let f: Vec<String> = f.map(|each| json_polynomial(each)).collect();
-        let f = f.join(",");
+        let (f, margin) = (f.join(","), self.margin);
         json_object(
             place,
             "recovered",
-            &format!("\"prime\":{prime},\"g\":{g},\"f\":[{f}],\"wrong\":{wrong}{marks}"),
+            &format!("\"prime\":{prime},\"g\":{g},\"f\":[{f}],\"wrong\":{wrong}{marks},\"margin\":{margin}"),
         )
     }
 }
