@@ -7,7 +7,10 @@ use outside_checks::jobs::trial::generate;
 use outside_checks::second::trial_job;
 use std::fs;
 use support::longer::{df_of, has_longer_header, header_length, outputs_of, Added};
-use support::{assert_bad_use, assert_fails, file, folder, run, run_on, run_redirected, ROOT};
+use support::{
+    assert_bad_use, assert_done, assert_fails, file, folder, run, run_on, run_redirected,
+    PAGE_RECOVERED, ROOT,
+};
 
 const EXAMPLE: &str = "examples/pole.trial";
 /// The job of docs/TRIAL.md.
@@ -38,14 +41,7 @@ fn a_trial_is_a_readable_job() {
     let piped = run_on(&["trial", "-"], &example());
     assert_eq!((piped.text.as_str(), piped.status), (JOB, 0));
     let recovered = run_on(&["recover", "-"], &read.out);
-    let expected = "\
-standard input: recovered modulo 7
-  f1 = 5 / (1 + u)
-  f2 = 1 / (1 + u)
-  wrong rows: 0 (u = 0), 6 (u = 6)
-  margin: 2
-";
-    assert_eq!((recovered.text.as_str(), recovered.status), (expected, 0));
+    assert_done(&recovered, PAGE_RECOVERED);
 }
 
 #[test]

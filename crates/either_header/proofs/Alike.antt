@@ -15,8 +15,9 @@ use Rattle.header.specs.Header.{boundsOf}
 use Rattle.rows.specs.Rows.{numberAt}
 use Rattle.job.specs.Form.{formOutcomeOf}
 use Rattle.job.specs.Refusals.{outcomeOf}
+use Rattle.job.proofs.Forms.{form-with-room}
 use Rattle.margin.specs.Margin.{marginBy, marginOf}
-use Rattle.margin.proofs.Laws.{form-with-room, margin-by}
+use Rattle.margin.proofs.Laws.{margin-by}
 use Rattle.word.specs.Word.{wordOf, countBelow}
 use Rattle.answer.specs.Bytes.{answerBytes, overwritten}
 use Rattle.problem.specs.Reduced.{Reduced, Same}

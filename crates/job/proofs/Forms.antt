@@ -123,6 +123,10 @@ module _ (s : List ℕ) where
           let exact = passed (answerLengthOf (boundsOf s)) ∙ long-enough _ (le-refl _) in
           passed area ∙ long-enough area (omega (arith, answer-length-most s _ exact)) ∙ sym exact
 
+  -- with 254 bytes, which no answer exceeds, the tests say what a check for form does
+  pub form-with-room : formOutcomeOf s ≡ outcomeOf s 254
+  form-with-room = form-outcome ∙ sym (form-same 254 (le-refl 254))
+
   -- a refusal before 7 is given with every area
   pub form-refused : (area : ℕ) → 0 < reportOf (outcomeOf s area) .refusal → (reportOf (outcomeOf s area) .refusal ≡ 7 → ⊥)
       → outcomeOf s area ≡ outcomeOf s (answerLengthOf (boundsOf s))

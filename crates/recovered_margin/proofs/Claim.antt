@@ -16,21 +16,21 @@ use Rattle.marked_rows.specs.Marks.{speakingCount}
 use Rattle.job.specs.Form.{formOutcomeOf}
 use Rattle.job.specs.Refusals.{outcomeOf, WellFormed}
 use Rattle.job.proofs.Facts.{well-formed-facts}
-use Rattle.job.proofs.Forms.{form-outcome, form-accepted, form-refused, accepted-or-refused}
+use Rattle.job.proofs.Forms.{form-outcome, form-with-room, form-accepted, form-refused, accepted-or-refused}
 use Rattle.problem.specs.Reduced.{Reduced}
 use Rattle.problem.specs.Answers.{wrongCount, Within, Answer}
 use Rattle.problem.proofs.Same.{wrong-count-same}
 use Rattle.problem_meaning.proofs.OnlyOne.{SameOrFew, same-or-few}
 use Rattle.recovery.specs.Recovery.{RefusedEarly, Answered, RefusedUnsolvable, Settled}
 use Rattle.margin.specs.Margin.{marginOf}
-use Rattle.margin.proofs.Laws.{margin-refused, margin-sum, margin-positive}
+use Rattle.margin.proofs.Laws.{margin-refused, margin-accepted, margin-sum, margin-positive}
 use Rattle.recovered_margin.specs.Others.{Other, Margin}
 use Rattle.recovered_margin.specs.RecoveredMargin.{RecoveredMargin}
 
--- of a well-formed job, also the count of wrong rows of a vector that is no answer gives its margin, where that is not 0
-pub vector-margin : (s : List ℕ) (area : ℕ) → WellFormed s area → {f : ℕ → List ℕ} {g : List ℕ} → Within (boundsOf s) f g
+-- of any job, also the count of wrong rows of a vector that is no answer gives its margin, where that is not 0
+pub vector-margin : (s : List ℕ) {f : ℕ → List ℕ} {g : List ℕ} → Within (boundsOf s) f g
     → Reduced (primeOf (boundsOf s)) (boundsOf s .outputs) f g → 0 < marginOf s (wrongCount s f g) → Margin s f g (marginOf s (wrongCount s f g))
-vector-margin s area wf {f} {g} within reduced positive = record {
+vector-margin s {f} {g} within reduced positive = record {
   sum = sum;
   positive = omega arith;
   others = others;
@@ -41,16 +41,16 @@ vector-margin s area wf {f} {g} within reduced positive = record {
     sum = margin-sum s (wrongCount s f g) positive
 
     others : (f' : ℕ → List ℕ) (g' : List ℕ) → Other s f g f' g' → speakingCount s ≤ dfOf s + boundsOf s .dg + wrongCount s f g + wrongCount s f' g'
-    others f' g' o = by (same-or-few s (well-formed-facts s area wf) within reduced (o .within) (o .reduced))
+    others f' g' o = by (same-or-few s (well-formed-facts s 254 (sym (form-with-room s) ∙ margin-accepted s _ positive)) within reduced (o .within) (o .reduced))
       where
         by : SameOrFew s f g f' g' → speakingCount s ≤ dfOf s + boundsOf s .dg + wrongCount s f g + wrongCount s f' g'
         by (inl same) = absurd (o .differs same)
         by (inr few) = few
 
--- and of an answer it is not 0, as there are rows enough that speak
+-- of an answer of a well-formed job it is not 0, as there are rows enough that speak
 pub answer-margin : (s : List ℕ) (area : ℕ) → WellFormed s area → {f : ℕ → List ℕ} {g : List ℕ} → Answer s f g → Margin s f g (marginOf s (wrongCount s f g))
 answer-margin s area wf {f} {g} a =
-    vector-margin s area wf (a .within) (a .reduced)
+    vector-margin s (a .within) (a .reduced)
     (margin-positive s (wrongCount s f g) (form-outcome s ∙ form-accepted s area wf) (omega (arith, well-formed-facts s area wf .enough-speaking, a .few-wrong)))
 
 module _ (s area : List ℕ) {r : Report} {after : List ℕ} (S : Settled s area r after) {m : ℕ} (M : m ≡ marginOf s (r .wrong)) where

@@ -15,6 +15,15 @@ use std::thread;
 pub const ROOT: &str = concat!(env!("CARGO_MANIFEST_DIR"), "/..");
 pub const COMMAND: &str = env!("CARGO_BIN_EXE_hanthuvelo");
 
+/// What `recover` prints of the trial job that docs/TRIAL.md works out by hand.
+pub const PAGE_RECOVERED: &str = "\
+standard input: recovered modulo 7
+  f1 = 5 / (1 + u)
+  f2 = 1 / (1 + u)
+  wrong rows: 0 (u = 0), 6 (u = 6)
+  margin: 2
+";
+
 /// What a run came to.
 pub struct Run {
     pub status: i32,

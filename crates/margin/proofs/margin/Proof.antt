@@ -14,9 +14,10 @@ use Rattle.marked_rows.specs.Marks.{speaks, speakingCount}
 use Rattle.job.specs.declared.reading.Reading.{Reading}
 use Rattle.job.specs.Form.{formOutcomeOf}
 use Rattle.job.specs.Reading.{readingWith}
+use Rattle.job.proofs.Forms.{form-with-room}
 use Rattle.job.proofs.Laws.{reading-outcome, reading-accepted}
 use Rattle.margin.specs.Margin.{excessOf}
-use Rattle.margin.proofs.Laws.{form-with-room, margin-by, margin-refused}
+use Rattle.margin.proofs.Laws.{margin-by, margin-refused}
 use Rattle.margin.proofs.margin.Statement.{statement}
 use Rattle.margin.proofs.margin.Tie as tie
 
