@@ -7,8 +7,9 @@ use mathlib.Core.List.{[], _∷_}
 use lib.Dec.{eqb, lit≤}
 use Rattle.field.specs.declared.Prime.the-variants.{P7}
 use Rattle.format.specs.declared.Bounds.{Bounds}
-use Rattle.format.specs.Bounds.{numeratorBoundOf, numeratorCount, answerLengthOf, Storable}
-use Rattle.answer.specs.Bytes.{coefficientBytes, outputBytes, answerBytes, numeratorStart, overwritten}
+use Rattle.format.specs.Bounds.{numeratorBoundOf, numeratorCount, answerLengthOf, FitsPolynomials}
+use Rattle.answer.specs.Bytes.{coefficientBytes, outputBytes, answerBytes, numeratorStart}
+use Rattle.lists.specs.Overwriting.{overwritten}
 
 -- H1: one output, three rows, df 0, dg 0, E 1
 h1 : Bounds
@@ -37,9 +38,9 @@ h8-start : numeratorStart h8 1 ≡ 12
 unfolding h8 numeratorCount
 h8-start = refl
 
-h8-storable : Storable h8
+h8-fits : FitsPolynomials h8
 unfolding h8
-h8-storable = record { few = lit≤ tt; denominator-low = lit≤ tt; numerators-low = low }
+h8-fits = record { few = lit≤ tt; denominator-low = lit≤ tt; numerators-low = low }
   where
     low : (i : ℕ) → i < 2 → numeratorBoundOf h8 i ≤ 31
     low zero l = lit≤ tt

@@ -1,6 +1,8 @@
-pub mod Splices
-pub mod Copies
 pub mod Lengths
 pub mod Runs
 pub mod Reading
 mod Examples
+pub mod Places
+pub mod Ranges
+pub mod Written
+mod Numerators

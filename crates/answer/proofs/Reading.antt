@@ -12,7 +12,8 @@ use Rattle.format.specs.declared.Bounds.{Bounds}
 use Rattle.format.specs.Bounds.{primeOf, numeratorBoundOf}
 use Rattle.field.proofs.Moduli.{modulus-small}
 use Rattle.poly.specs.Coefficients.{Bounded}
-use Rattle.answer.specs.Bytes.{twoBytes, fourBytes, coefficientBytes, outputBytes, answerBytes, numeratorStart, overwritten}
+use Rattle.answer.specs.Bytes.{twoBytes, fourBytes, coefficientBytes, outputBytes, answerBytes, numeratorStart}
+use Rattle.lists.specs.Overwriting.{overwritten}
 use Rattle.answer.proofs.Lengths.{length-coefficients, output-within, length-front, numerator-start}
 
 -- numbers of 16 bits throughout

@@ -7,8 +7,9 @@ use native.Mathlib.Omega.{arith}
 use lib.ListN.{length, getD}
 use Rattle.format.specs.declared.Bounds.{Bounds}
 use Rattle.format.specs.Bounds.{numeratorBoundOf, answerLengthOf}
-use Rattle.answer.specs.Bytes.{twoBytes, fourBytes, coefficientBytes, outputBytes, answerBytes, overwritten, spliced}
-use Rattle.answer.proofs.Splices.{splice-splice, splice-behind}
+use Rattle.answer.specs.Bytes.{twoBytes, fourBytes, coefficientBytes, outputBytes, answerBytes}
+use Rattle.lists.specs.Overwriting.{overwritten, spliced}
+use Rattle.lists.proofs.Splices.{splice-splice, splice-behind}
 use Rattle.answer.proofs.Lengths.{length-coefficients, length-output, length-front, answer-end}
 
 pub next-coefficient : (at : ℕ) (a : List ℕ) (k next : ℕ) (old area : List ℕ) → next ≡ at + 2 * k → next ≤ length old → area ≡ spliced at (coefficientBytes a k) old

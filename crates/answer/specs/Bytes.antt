@@ -1,7 +1,7 @@
 -- Paper 01, "The recovered sheet": an answer's bytes.
 use Prim.Native.Nat.{ℕ, zero, suc, _+_, _*_, _/_, _%_}
 use mathlib.Core.List.{List, [], _∷_, _++_}
-use lib.ListN.{length, getD, take, drop}
+use lib.ListN.{getD}
 use Rattle.format.specs.declared.Bounds.{Bounds}
 use Rattle.format.specs.Bounds.{numeratorBoundOf, numeratorCount}
 
@@ -31,11 +31,3 @@ answerBytes b word g f =
 -- the byte at which the coefficients of output i begin
 abbrev pub numeratorStart : Bounds → ℕ → ℕ
 numeratorStart b i = 4 + 2 * ((b .dg + 1) + numeratorCount b i)
-
--- "Bytes of the answer area behind it keep their contents"
-abbrev pub overwritten : List ℕ → List ℕ → List ℕ
-overwritten new old = new ++ drop (length new) old
-
--- the same from a place on: what stands before it keeps its contents too
-abbrev pub spliced : ℕ → List ℕ → List ℕ → List ℕ
-spliced at new old = take at old ++ new ++ drop (at + length new) old

@@ -1,10 +1,15 @@
 // Paper 01, "The recovered sheet": an answer written as bytes.
+pub mod coefficients;
+
+pub use coefficients::Vector;
+pub use coefficients::read_vector;
 ghost use Prim.Native.Nat.{_+_, _*_, _≤_};
 ghost use mathlib.Core.Path.{_≡_};
 ghost use lib.ListN.{length};
-ghost use Rattle.format.specs.Bounds.{answerLengthOf, Storable};
+ghost use Rattle.format.specs.Bounds.{answerLengthOf, FitsPolynomials};
 ghost use Rattle.poly.specs.Vectors.{coefficientsAt};
-ghost use Rattle.answer.specs.Bytes.{twoBytes, fourBytes, coefficientBytes, outputBytes, answerBytes, overwritten, spliced};
+ghost use Rattle.answer.specs.Bytes.{twoBytes, fourBytes, coefficientBytes, outputBytes, answerBytes};
+ghost use Rattle.lists.specs.Overwriting.{overwritten, spliced};
 use format::Bounds;
 use poly::Poly;
 
@@ -46,7 +51,7 @@ fn put_coefficients(area: &mut [u8], at: usize, a: Poly, count: usize) -> usize
 
 // The numerators from a place on; returns the place behind them.
 fn put_outputs(area: &mut [u8], at: usize, b: Bounds, f: [Poly; 4]) -> usize
-    requires { ⌜ (Storable b) × (at + length (outputBytes b (coefficientsAt f) (b .outputs)) ≤ length (now area)) ⌝ }
+    requires { ⌜ (FitsPolynomials b) × (at + length (outputBytes b (coefficientsAt f) (b .outputs)) ≤ length (now area)) ⌝ }
     ensures { λ r.
         ⌜ (r ≡ at + length (outputBytes b (coefficientsAt f) (b .outputs)))
         × (now (area .exit) ≡ spliced at (outputBytes b (coefficientsAt f) (b .outputs)) (now (area .entry))) ⌝ }
@@ -62,7 +67,7 @@ fn put_outputs(area: &mut [u8], at: usize, b: Bounds, f: [Poly; 4]) -> usize
 
 // Writes the answer to the area's start and returns how many bytes it wrote.
 pub fn write(area: &mut [u8], b: Bounds, word: u32, g: Poly, f: [Poly; 4]) -> usize
-    requires { ⌜ (Storable b) × (answerLengthOf b ≤ length (now area)) ⌝ }
+    requires { ⌜ (FitsPolynomials b) × (answerLengthOf b ≤ length (now area)) ⌝ }
     ensures { λ r.
         ⌜ (r ≡ answerLengthOf b)
         × (now (area .exit) ≡ overwritten (answerBytes b word (g .c) (coefficientsAt f)) (now (area .entry))) ⌝ }

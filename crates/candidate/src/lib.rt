@@ -1,18 +1,21 @@
 // docs/METHOD.md, section 2: the outputs one after the other. After each one the candidate holds the only fractions, over their common denominator,
 // that an answer can have there; or it is known that there is no answer.
-ghost use Rattle.format.specs.Bounds.{Sized, primeOf};
+mod extension;
+mod vector;
+
+pub use vector::Candidate;
+ghost use Rattle.format.specs.Bounds.{EnoughRows, primeOf};
 ghost use Prim.Native.Nat.{_+_, _-_, _<_};
 ghost use mathlib.Core.Path.{_≡_};
 ghost use Rattle.evaluation.specs.Values.{formsOf};
-ghost use Rattle.extension.specs.Extensions.{Fitting};
+ghost use Rattle.candidate.specs.Extensions.{Fitting};
 ghost use Rattle.poly.specs.Coefficients.{Bounded};
 ghost use Rattle.pairs.specs.Pairs.{PairBounded};
 ghost use Rattle.column.specs.Columns.{columnOf};
-ghost use Rattle.candidate.specs.Candidates.{startCandidate, pairOf, nextOf, candidateAfter, Table};
+ghost use Rattle.candidate.specs.Candidates.{startCandidate, outputPairOf, nextOf, candidateAfter, RowsInRange};
 use format::Bounds;
 use pairs::Pair;
 use poly::Poly;
-use vector::Candidate;
 
 fn start() -> Candidate
     ensures { λ r. ⌜ r ≡ startCandidate ⌝ }
@@ -48,9 +51,9 @@ fn pair(
     i: usize,
     g: Poly,
 ) -> Pair
-    requires { ⌜ Sized b × Table b speaking (now points) (now weights) × (now xs ≡ formsOf (primeOf b) (now points) (b .rows))
+    requires { ⌜ EnoughRows b × RowsInRange b speaking (now points) (now weights) × (now xs ≡ formsOf (primeOf b) (now points) (b .rows))
         × Bounded (primeOf b) (b .dg + 1) (g .c) × (i < 4) ⌝ }
-    ensures { λ r. ⌜ (r ≡ pairOf b speaking (now (points .entry)) (now (weights .entry)) (columnOf b (now (points .entry)) (now (values .entry)) i (g .c)))
+    ensures { λ r. ⌜ (r ≡ outputPairOf b speaking (now (points .entry)) (now (weights .entry)) (columnOf b (now (points .entry)) (now (values .entry)) i (g .c)))
         × PairBounded (primeOf b) (b .rows + 1) r ⌝ }
 {
     let prime = b.prime;
@@ -72,7 +75,7 @@ fn next(
     i: usize,
     c: Candidate,
 ) -> Candidate
-    requires { ⌜ Sized b × Table b speaking (now points) (now weights) × (now xs ≡ formsOf (primeOf b) (now points) (b .rows)) × Fitting b c × (i < 4) ⌝ }
+    requires { ⌜ EnoughRows b × RowsInRange b speaking (now points) (now weights) × (now xs ≡ formsOf (primeOf b) (now points) (b .rows)) × Fitting b c × (i < 4) ⌝ }
     ensures { λ r. ⌜ (r ≡ nextOf b speaking (now (points .entry)) (now (weights .entry)) (now (values .entry)) i c) × Fitting b r ⌝ }
 {
     let prime = b.prime;
@@ -98,7 +101,7 @@ pub fn after_outputs(
     weights: [u16; 32],
     values: [u32; 128],
 ) -> Candidate
-    requires { ⌜ Sized b × Table b speaking points weights ⌝ }
+    requires { ⌜ EnoughRows b × RowsInRange b speaking points weights ⌝ }
     ensures { λ r. ⌜ (r ≡ candidateAfter b speaking points weights values (b .outputs)) × Fitting b r ⌝ }
 {
     let n = b.outputs;

@@ -35,7 +35,7 @@ fn writing_reported(writing: Writing) -> WritingReport
             written: bytes,
         },
         Writing::Refused { reason, row } => {
-            let refusal = format::number(reason);
+            let refusal = format::refusal_number(reason);
             WritingReport {
                 refusal: refusal,
                 row: row,
@@ -74,7 +74,7 @@ pub extern "C" fn hanthuvelo_reciprocal(prime_code: u32, number: u32) -> Recipro
 pub extern "C" fn hanthuvelo_judge(job: &[u8], answer: &[u8]) -> JudgementReport
     ensures { λ r. ⌜ Judged (now (job .entry)) (now (answer .entry)) r ⌝ }
 {
-    let judgement = offered_answer::judge_answer(job, answer);
+    let judgement = offered_answer::judge(job, answer);
     offered_answer::reported(judgement)
 }
 

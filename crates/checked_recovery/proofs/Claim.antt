@@ -18,7 +18,7 @@ use Rattle.job.specs.Refusals.{areaTooShort, refuse, outcomeOf}
 use Rattle.job.specs.Form.{formOutcomeOf}
 use Rattle.job.proofs.Facts.{refused-not-accepted}
 use Rattle.job.proofs.Forms.{lastTest, Alike, check-alike}
-use Rattle.row_search.specs.Search.{ifHolds}
+use Rattle.lists.specs.Search.{ifHolds}
 use Rattle.recovery.specs.Recovery.{RefusedEarly, Answered, RefusedUnsolvable, Settled}
 use Rattle.form_check.specs.declared.FormReport.{FormReport}
 use Rattle.form_check.specs.Reports.{formReportOf}

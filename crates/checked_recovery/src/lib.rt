@@ -5,19 +5,19 @@ ghost use Rattle.checked_recovery.specs.CheckedRecovery.{CheckedRecovery
 use format::Outcome;
 
 // What two calls returned.
-pub struct Both {
+pub struct CheckAndRecovery {
     pub form: Outcome,
     pub recovery: Outcome,
 }
 
 // Checks a job for form, and recovers it into the area.
-pub fn check_and_recover(job: &[u8], area: &mut [u8]) -> Both
+pub fn check_and_recover(job: &[u8], area: &mut [u8]) -> CheckAndRecovery
     ensures { λ r.
         ⌜ CheckedRecovery (now (job .entry)) (now (area .entry)) (formReportOf (r .form)) (reportOf (r .recovery)) (now (area .exit)) ⌝ }
 {
     let form = form_check::check(job);
     let recovery = recovery::recover(job, area);
-    Both {
+    CheckAndRecovery {
         form: form,
         recovery: recovery,
     }

@@ -1,4 +1,5 @@
 -- The right-hand sides of one output's conditions, row by row.
+use lib.ListN.{getD}
 use mathlib.Core.Path.{_≡_, sym, ap, _∙_}
 use mathlib.Core.Bool.{Bool, true, false, cond}
 use mathlib.Core.List.{List}
@@ -7,7 +8,7 @@ use native.Mathlib.Nat.{mod-lt}
 use lib.Dec.{ltb}
 use borrow.Author.Tests.{lt-ltb, le-ltb}
 use Rattle.lists.specs.Tabulated.{tabulate}
-use Rattle.poly.specs.Coefficients.{at, Bounded}
+use Rattle.poly.specs.Coefficients.{Bounded}
 use Rattle.poly.specs.Operations.{valueOf}
 use Rattle.lists.proofs.Filling.{Filled, filled-all}
 use Rattle.poly.proofs.Lists.{bounded-tabulate}
@@ -17,17 +18,17 @@ use Rattle.column.specs.Columns.{columnAt}
 
 -- the column, at a row and past the rows
 module _ (p rows : ℕ) (points values : List ℕ) (i : ℕ) (g : List ℕ) where
-  pub column-is : {v r : ℕ} (l : ℕ) → l < rows → v ≡ valueOf p (at points l) g → r ≡ v * at values (l * 4 + i) % p
+  pub column-is : {v r : ℕ} (l : ℕ) → l < rows → v ≡ valueOf p (getD points l 0) g → r ≡ v * getD values (l * 4 + i) 0 % p
       → r ≡ columnAt p rows points values i g l
   unfolding columnAt
-  column-is l h ev er = er ∙ ap (λ (t : ℕ). t * at values (l * 4 + i) % p) ev ∙ sym (rw (lt-ltb l rows h))
+  column-is l h ev er = er ∙ ap (λ (t : ℕ). t * getD values (l * 4 + i) 0 % p) ev ∙ sym (rw (lt-ltb l rows h))
 
   pub column-past : (l : ℕ) → rows ≤ l → columnAt p rows points values i g l ≡ 0
   unfolding columnAt
   column-past l h = rw (le-ltb l rows h)
 
   -- what the loop has stored, v the values of g
-  pub column-all : {v z : List ℕ} → rows ≤ 32 → v ≡ valuesOf p points rows g → Filled 32 (λ l. at v l * at values (l * 4 + i) % p) (λ l. 0) rows z
+  pub column-all : {v z : List ℕ} → rows ≤ 32 → v ≡ valuesOf p points rows g → Filled 32 (λ l. getD v l 0 * getD values (l * 4 + i) 0 % p) (λ l. 0) rows z
       → z ≡ tabulate 32 (columnAt p rows points values i g)
   column-all few ev h =
       filled-all
@@ -42,6 +43,6 @@ module _ (p rows : ℕ) (points values : List ℕ) (i : ℕ) (g : List ℕ) wher
   unfolding columnAt
   bounded-column positive = bounded-tabulate p rows 32 _ (λ l. by-row l (ltb l rows)) column-past
     where
-      by-row : (l : ℕ) (t : Bool) → cond t (valueOf p (at points l) g * at values (l * 4 + i) % p) 0 < p
+      by-row : (l : ℕ) (t : Bool) → cond t (valueOf p (getD points l 0) g * getD values (l * 4 + i) 0 % p) 0 < p
       by-row l true = mod-lt _ positive
       by-row l false = positive

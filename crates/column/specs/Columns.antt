@@ -1,4 +1,5 @@
 -- The right-hand sides of one output's conditions, row by row.
+use lib.ListN.{getD}
 use Rattle.format.specs.Bounds.{primeOf}
 use mathlib.Core.Path.{_≡_}
 use mathlib.Core.Bool.{cond}
@@ -7,13 +8,12 @@ use Prim.Native.Nat.{ℕ, _+_, _*_, _%_}
 use lib.Dec.{ltb}
 use Rattle.format.specs.declared.Bounds.{Bounds}
 use Rattle.lists.specs.Tabulated.{tabulate}
-use Rattle.poly.specs.Coefficients.{at}
 use Rattle.poly.specs.Operations.{valueOf}
 use Rattle.evaluation.specs.Values.{formsOf}
 
 -- g(x) y at row l, y the value of output i
 unfoldable pub columnAt : ℕ → ℕ → List ℕ → List ℕ → ℕ → List ℕ → ℕ → ℕ
-columnAt p rows points values i g l = cond (ltb l rows) (valueOf p (at points l) g * at values (l * 4 + i) % p) 0
+columnAt p rows points values i g l = cond (ltb l rows) (valueOf p (getD points l 0) g * getD values (l * 4 + i) 0 % p) 0
 
 unfoldable pub columnOf : Bounds → List ℕ → List ℕ → ℕ → List ℕ → List ℕ
 columnOf b points values i g = tabulate 32 (columnAt (primeOf b) (b .rows) points values i g)

@@ -1,12 +1,13 @@
 // The right-hand sides of one output's conditions: the values of its numerator over the denominator found so far.
-ghost use Rattle.format.specs.Bounds.{Sized};
+ghost use lib.ListN.{getD};
+ghost use Rattle.format.specs.Bounds.{EnoughRows};
 ghost use Prim.Native.Nat.{ℕ, _+_, _≤_, _<_};
 ghost use mathlib.Core.Bool.{not, _&&_};
 ghost use mathlib.Core.Path.{_≡_};
 ghost use lib.Dec.{eqb};
-ghost use Rattle.word.specs.Word.{flagOf};
+ghost use Rattle.lists.specs.Counting.{oneIf};
 ghost use Rattle.field.specs.Primes.{modulusOf};
-ghost use Rattle.poly.specs.Coefficients.{at, Bounded};
+ghost use Rattle.poly.specs.Coefficients.{Bounded};
 ghost use Rattle.evaluation.specs.Values.{Formed};
 ghost use Rattle.pairs.specs.Pairs.{activeCount};
 ghost use Rattle.column.specs.Columns.{ColumnFor};
@@ -21,7 +22,7 @@ pub struct RightSides {
 
 // 1 if a row of weight c with the right-hand side z asks something, 0 if it is idle.
 fn asking(c: u16, z: u32) -> u32
-    ensures { λ r. ⌜ r ≡ flagOf (not (eqb c 0 && eqb z 0)) ⌝ }
+    ensures { λ r. ⌜ r ≡ oneIf (not (eqb c 0 && eqb z 0)) ⌝ }
 {
     if c == 0 {
         if z == 0 { 0 } else { 1 }
@@ -52,8 +53,8 @@ pub fn column(
     i: usize,
     g: Poly,
 ) -> RightSides
-    requires { ⌜ Sized b × (i < 4) × Bounded (modulusOf (b .prime)) (b .dg + 1) (g .c) × Formed (modulusOf (b .prime)) (now xs) (b .rows) ⌝ }
-    ensures { λ r. ⌜ ColumnFor b (now (xs .entry)) (now (values .entry)) i (g .c) (r .z) × ((k : ℕ) → at (r .z) k < modulusOf (b .prime))
+    requires { ⌜ EnoughRows b × (i < 4) × Bounded (modulusOf (b .prime)) (b .dg + 1) (g .c) × Formed (modulusOf (b .prime)) (now xs) (b .rows) ⌝ }
+    ensures { λ r. ⌜ ColumnFor b (now (xs .entry)) (now (values .entry)) i (g .c) (r .z) × ((k : ℕ) → getD (r .z) k 0 < modulusOf (b .prime))
         × (r .active ≡ activeCount (now (weights .entry)) (r .z) (b .rows)) ⌝ }
 {
     let prime = b.prime;

@@ -18,13 +18,15 @@ use Rattle.job.specs.Refusals.{outcomeOf}
 use Rattle.job.proofs.Forms.{form-with-room}
 use Rattle.margin.specs.Margin.{marginBy, marginOf}
 use Rattle.margin.proofs.Laws.{margin-by}
-use Rattle.word.specs.Word.{wordOf, countBelow}
-use Rattle.answer.specs.Bytes.{answerBytes, overwritten}
+use Rattle.row_mask.specs.Word.{wordOf}
+use Rattle.lists.specs.Counting.{countBelow}
+use Rattle.answer.specs.Bytes.{answerBytes}
+use Rattle.lists.specs.Overwriting.{overwritten}
 use Rattle.problem.specs.Reduced.{Reduced, Same}
 use Rattle.problem.specs.Answers.{Within, Answer, wrongAt, wrongCount, recoveredBytes}
 use Rattle.recovery.specs.Recovery.{RefusedEarly, Answered, RefusedUnsolvable, Settled}
 use Rattle.recovery.proofs.Settling.{settled}
-use Rattle.recovery_laws.proofs.Laws.{settled-unique}
+use Rattle.recovery.proofs.Laws.{settled-unique}
 use Rattle.either_header.specs.EitherHeader.{SameJob, EitherHeader}
 use Rattle.either_header.specs.Unflagged.{plainWrong, Unflagged}
 use Rattle.either_header.proofs.Headers.{short-plain, longer-plain, speaking-same, df-same, bounds-same, numbers-same, outcome-same}

@@ -20,10 +20,10 @@ use Rattle.format.proofs.Sizes.{largest-above, largest-most}
 use Rattle.cursor.specs.Bits.{fieldOf}
 use Rattle.cursor.proofs.Fields.{field-cong}
 use Rattle.header.specs.Header.{outputsOf, dfOf, headerLengthOf, numeratorBoundsOf, flagsOf, marksAllowed, boundsOf, headerOf, jobLengthOf}
-use Rattle.header.proofs.Fields.{narrow, bound-at}
+use Rattle.header.proofs.Fields.{fits-fields, bound-at}
 use Rattle.header_rules.specs.Rules.{boundsAbsent}
-use Rattle.row_search.specs.Search.{isFound}
-use Rattle.row_search.proofs.FirstBelow.{none-below}
+use Rattle.lists.specs.Search.{isFound}
+use Rattle.lists.proofs.FirstBelow.{none-below}
 use Rattle.rows.specs.Rows.{numberAt}
 use Rattle.job.specs.Refusals.{byteCountDiffers, tooFewRows, outcomeOf}
 use Rattle.either_header.specs.EitherHeader.{SameJob}
@@ -74,7 +74,7 @@ module _ (s s' : List ℕ) (J : SameJob s s') where
 
   largest-equal : largestBound (boundsOf s) (boundsOf s .outputs) ≡ dfOf s
   largest-equal =
-      let n = narrow s in
+      let n = fits-fields s in
       let each : (i : ℕ) → i < boundsOf s .outputs → numeratorBoundOf (boundsOf s) i ≡ dfOf s =
       λ i l. equal-bound i (omega arith) ∙ rw (lt-ltb i (outputsOf s) (omega (arith, outputs-are))) refl in
       let most = largest-most (boundsOf s) (dfOf s) (boundsOf s .outputs) (λ i l. (let e = each i l in omega arith)) in

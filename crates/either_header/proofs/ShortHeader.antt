@@ -12,7 +12,7 @@ use Rattle.format.specs.declared.Bounds.{Bounds}
 use Rattle.cursor.specs.Bits.{bitOf, fieldOf}
 use Rattle.cursor.proofs.Fields.{first-bit, second-bit, field-of-number}
 use Rattle.header.specs.Header.{outputsOf, dfOf, spareBitOf, numeratorBoundsOf, boundsOf}
-use Rattle.row_word.specs.Words.{joinedBytes}
+use Rattle.read_u64.specs.Words.{joinedBytes}
 use Rattle.rows.specs.Rows.{numberAt}
 use Rattle.job.specs.Refusals.{outcomeOf}
 use Rattle.problem.specs.Answers.{wrongAt}

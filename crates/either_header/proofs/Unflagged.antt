@@ -1,4 +1,4 @@
--- Without the first flag bit no row is marked, all rows speak, and 4 has made sure that they are enough; so 12 never applies.
+-- Without the first flag bit no row is isSet, all rows speak, and 4 has made sure that they are enough; so 12 never applies.
 use mathlib.Core.Path.{_≡_, refl, ap, _∙_}
 use mathlib.Core.Bool.{Bool, true, false, cond, not, _&&_, _||_}
 use mathlib.Core.List.{List}
@@ -10,12 +10,12 @@ use Rattle.format.specs.declared.Reason.the-variants.{TooShort, AddedHeader, By
 use Rattle.format.specs.Bounds.{primeOf, largestBound}
 use Rattle.cursor.specs.Bits.{fieldOf}
 use Rattle.cursor.proofs.Fields.{field-below}
-use Rattle.row_search.specs.Search.{ifHolds, firstBelow, anyBelow}
-use Rattle.row_search.proofs.FirstBelow.{first-cong}
+use Rattle.lists.specs.Search.{ifHolds, firstBelow, anyBelow}
+use Rattle.lists.proofs.FirstBelow.{first-cong}
 use Rattle.header.specs.Header.{dfOf, headerLengthOf, spareBitOf, flagsOf, marksAllowed, boundsOf, headerOf, rowsNeededOf}
 use Rattle.header_rules.specs.Rules.{tooShort, boundsAbsent, addedHeaderBroken}
 use Rattle.rows.specs.Rows.{numberAt, jobPoint, jobValue}
-use Rattle.word.specs.Word.{flagOf, countBelow}
+use Rattle.lists.specs.Counting.{oneIf, countBelow}
 use Rattle.marked_rows.specs.declared.Mark.the-variants.{None}
 use Rattle.marked_rows.specs.Marks.{markAt, isUnmarked, speaking, speaks, speakingCount}
 use Rattle.marked_rows.proofs.Marks.{unmarked-if-not-allowed}
@@ -27,7 +27,7 @@ use Rattle.either_header.specs.Unflagged.{plainRowTests, item5Broken, it
 count-all : (n : ℕ) (test : ℕ → Bool) → ((r : ℕ) → test r ≡ true) → countBelow n test ≡ n
 unfolding countBelow
 count-all zero test all = refl
-count-all (suc n) test all = let last = ap flagOf (all n) in omega (arith, count-all n test all)
+count-all (suc n) test all = let last = ap oneIf (all n) in omega (arith, count-all n test all)
 
 module _ (s : List ℕ) (unset : marksAllowed (flagsOf s) ≡ false) where
   none : (r : ℕ) → markAt s r ≡ None

@@ -12,7 +12,7 @@ use Rattle.format.specs.declared.Bounds.{Bounds}
 use Rattle.format.specs.declared.Reason.the-variants.{TooShort, ByteCount, TooFewRows}
 use Rattle.format.specs.declared.Outcome.{Outcome}
 use Rattle.format.specs.Numbers.{numberFrom}
-use Rattle.row_search.specs.Search.{ifHolds}
+use Rattle.lists.specs.Search.{ifHolds}
 use Rattle.header.specs.Header.{boundsOf}
 use Rattle.rows.specs.Rows.{numberAt}
 use Rattle.job.specs.Refusals.{refuse, outcomeOf}

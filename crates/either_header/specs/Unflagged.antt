@@ -10,7 +10,7 @@ use Rattle.format.specs.declared.Reason.the-variants.{TooShort, AddedHeader, By
 use Rattle.format.specs.declared.Outcome.{Outcome}
 use Rattle.format.specs.declared.Outcome.the-variants.{Accepted}
 use Rattle.format.specs.Bounds.{primeOf, largestBound, answerLengthOf}
-use Rattle.row_search.specs.Search.{ifHolds, firstBelow, anyBelow}
+use Rattle.lists.specs.Search.{ifHolds, firstBelow, anyBelow}
 use Rattle.header.specs.Header.{dfOf, headerLengthOf, flagsOf, boundsOf}
 use Rattle.header_rules.specs.Rules.{tooShort, boundsAbsent}
 use Rattle.rows.specs.Rows.{numberAt}

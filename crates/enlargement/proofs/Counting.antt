@@ -6,12 +6,12 @@ use mathlib.Core.Bool.{Bool, true, false, not, _&&_}
 use Prim.Native.Nat.{ℕ, zero, suc, _+_, _≤_, _<_}
 use native.Mathlib.Omega.{arith}
 use Rattle.lists.proofs.Truth.{never-true}
-use Rattle.row_search.specs.declared.Found.{Found}
-use Rattle.row_search.specs.declared.Found.the-variants.{At, Nothing}
-use Rattle.row_search.specs.Search.{firstBelow, anyBelow, isFound, orElse}
-use Rattle.row_search.proofs.FirstBelow.{none-below}
-use Rattle.word.specs.Word.{flagOf, countBelow}
-use Rattle.word.proofs.Counts.{count-same, count-change}
+use Rattle.lists.specs.declared.Found.{Found}
+use Rattle.lists.specs.declared.Found.the-variants.{At, Nothing}
+use Rattle.lists.specs.Search.{firstBelow, anyBelow, isFound, orElse}
+use Rattle.lists.proofs.FirstBelow.{none-below}
+use Rattle.lists.specs.Counting.{oneIf, countBelow}
+use Rattle.lists.proofs.Counting.{count-same, count-change}
 
 -- one number more, which fails the test, or passes it
 any-more : (n : ℕ) (test : ℕ → Bool) → test n ≡ false → anyBelow (suc n) test ≡ anyBelow n test
@@ -65,7 +65,7 @@ module _ (same : ℕ → ℕ → Bool) (bad bad' : ℕ → Bool) where
     bad-row : (k : ℕ) → k < L → bad k ≡ true → countBelow L' (furtherBad k) ≡ countBelow L' (furtherBad (suc k)) + 1
     bad-row k l is-bad =
         let change = count-change (furtherBad k) (furtherBad (suc k)) L' j (place .1) other gone in
-        let one = ap flagOf here in
+        let one = ap oneIf here in
         omega arith
       where
         place : (j : ℕ) × (j < L') × (same k j ≡ true)
@@ -99,9 +99,9 @@ module _ (same : ℕ → ℕ → Bool) (bad bad' : ℕ → Bool) where
     bad-adds-below (suc k) l = by (bad k) refl (bad-adds-below k (omega arith))
       where
         by : (b : Bool) → bad k ≡ b → countBelow L' bad' ≡ countBelow k bad + countBelow L' (furtherBad k)
-            → countBelow L' bad' ≡ countBelow k bad + flagOf (bad k) + countBelow L' (furtherBad (suc k))
-        by true e before = let flag = ap flagOf e in omega (arith, bad-row k l e)
-        by false e before = let flag = ap flagOf e in omega (arith, other-row k l e)
+            → countBelow L' bad' ≡ countBelow k bad + oneIf (bad k) + countBelow L' (furtherBad (suc k))
+        by true e before = let flag = ap oneIf e in omega (arith, bad-row k l e)
+        by false e before = let flag = ap oneIf e in omega (arith, other-row k l e)
 
     pub bad-adds : countBelow L' bad' ≡ countBelow L bad + countBelow L' (furtherBad L)
     bad-adds = bad-adds-below L (omega arith)

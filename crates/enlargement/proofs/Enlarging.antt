@@ -5,7 +5,7 @@ use mathlib.Core.Bool.{Bool, true, false, not}
 use mathlib.Core.List.{List}
 use Prim.Native.Nat.{ℕ, _+_, _<_}
 use Rattle.header.specs.Header.{boundsOf}
-use Rattle.row_search.specs.Search.{anyBelow}
+use Rattle.lists.specs.Search.{anyBelow}
 use Rattle.rows.specs.Rows.{jobPoint}
 use Rattle.job.proofs.Facts.{WellFormedFacts}
 use Rattle.problem.specs.Answers.{wrongAt, wrongCount}

@@ -5,15 +5,14 @@ use mathlib.Core.List.{List}
 use Prim.Native.Nat.{ℕ, _≤_, _<_}
 use native.Mathlib.Decide.{decLe}
 use native.Mathlib.Omega.{arith}
-use lib.ListN.{length}
+use lib.ListN.{getD, length}
 use Rattle.format.specs.Numbers.{wordFrom}
 use Rattle.format.specs.declared.Report.{Report}
 use Rattle.format.specs.Bounds.{numeratorBoundOf}
-use Rattle.poly.specs.Coefficients.{at}
 use Rattle.header.specs.Header.{boundsOf}
 use Rattle.job.proofs.Facts.{well-formed-facts}
-use Rattle.answer.specs.Bytes.{overwritten}
-use Rattle.word.proofs.Words.{word-same}
+use Rattle.lists.specs.Overwriting.{overwritten}
+use Rattle.row_mask.proofs.Words.{word-same}
 use Rattle.problem.specs.Reduced.{Same}
 use Rattle.problem.specs.Answers.{Within, wordFor, recoveredBytes}
 use Rattle.problem.proofs.Written.{word-written, denominator-written, numerator-written}
@@ -40,11 +39,11 @@ same-lists s after {f} {f'} {g} {g'} h h' = record {
   numerators = λ i li k. by-output i li (decLe k (numeratorBoundOf (boundsOf s) i));
 }
   where
-    by : {k : ℕ} → Dec (k ≤ boundsOf s .dg) → at g k ≡ at g' k
+    by : {k : ℕ} → Dec (k ≤ boundsOf s .dg) → getD g k 0 ≡ getD g' k 0
     by {k} (yes l) = sym (h .denominator k l) ∙ h' .denominator k l
     by {k} (no l) = h .meets .denominator k (omega arith) ∙ sym (h' .meets .denominator k (omega arith))
 
-    by-output : {k : ℕ} (i : ℕ) → i < boundsOf s .outputs → Dec (k ≤ numeratorBoundOf (boundsOf s) i) → at (f i) k ≡ at (f' i) k
+    by-output : {k : ℕ} (i : ℕ) → i < boundsOf s .outputs → Dec (k ≤ numeratorBoundOf (boundsOf s) i) → getD (f i) k 0 ≡ getD (f' i) k 0
     by-output {k} i li (yes l) = sym (h .numerators i k li l) ∙ h' .numerators i k li l
     by-output {k} i li (no l) = h .meets .numerators i k li (omega arith) ∙ sym (h' .meets .numerators i k li (omega arith))
 

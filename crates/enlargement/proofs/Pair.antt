@@ -3,46 +3,34 @@ use mathlib.Core.Path.{_≡_, refl, sym, subst}
 use mathlib.Core.List.{List, [], _∷_}
 use Prim.Native.Nat.{ℕ, zero, suc, _<_}
 use native.Mathlib.Omega.{arith}
-use lib.ListN.{length}
+use lib.ListN.{getD, length}
 use Rattle.lists.specs.Tabulated.{tabulate}
 use Rattle.lists.proofs.Truth.{clash}
 use Rattle.format.specs.Bounds.{largestBound, numeratorCount}
 use Rattle.format.specs.declared.Outcome.the-variants.{Accepted}
-use Rattle.poly.specs.Coefficients.{at}
 use Rattle.poly.specs.Operations.{valueOf}
 use Rattle.cursor.specs.Bits.{fieldOf}
 use Rattle.header.specs.Header.{outputsOf, dfOf, spareBitOf, numeratorBoundsOf, flagsOf, boundsOf}
-use Rattle.row_search.specs.Search.{firstBelow}
+use Rattle.lists.specs.Search.{firstBelow}
 use Rattle.rows.specs.Rows.{numberAt}
-use Rattle.word.specs.Word.{countBelow}
+use Rattle.lists.specs.Counting.{countBelow}
 use Rattle.marked_rows.specs.Marks.{markOf, speakingCount}
 use Rattle.job.specs.Refusals.{outcomeOf, outcomeOfRows}
 use Rattle.problem.specs.Rows.{wrongRow}
 use Rattle.problem.specs.Answers.{wrongCount}
 use Rattle.enlargement.specs.Enlargement.{Meets, rowBytes, HoldsRows, HoldsSpeaking, sameBytes, furtherWrong, Comparable}
-use Rattle.enlargement.specs.Pair.{
-  smallerJob,
-  largerJob,
-  pairNumerators,
-  pairDenominator,
-  silentJob,
-  markedJob,
-  poleJob,
-  poleLargerJob,
-  poleNumerators,
-  poleDenominator,
-}
+use Rattle.enlargement.specs.Pair.{smallerJob, largerJob, pairNumerators, pairDenominator, silentJob, markedJob, poleJob, poleLargerJob, poleNumerators, poleDenominator}
 
 -- a constant has no coefficient above its first
-pub constant : (c k : ℕ) → 0 < k → at (c ∷ []) k ≡ 0
+pub constant : (c k : ℕ) → 0 < k → getD (c ∷ []) k 0 ≡ 0
 constant c zero l = absurd (omega arith)
 constant c (suc k) l = past k
   where
-    past : (k : ℕ) → at [] k ≡ 0
+    past : (k : ℕ) → _≡_ {A = ℕ} (getD [] k 0) 0
     past zero = refl
     past (suc k) = refl
 
-linear : (c d k : ℕ) → 1 < k → at (c ∷ d ∷ []) k ≡ 0
+linear : (c d k : ℕ) → 1 < k → getD (c ∷ d ∷ []) k 0 ≡ 0
 linear c d zero l = absurd (omega arith)
 linear c d (suc k) l = constant d k (omega arith)
 

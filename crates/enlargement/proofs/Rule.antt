@@ -6,32 +6,19 @@ use mathlib.Core.List.{List}
 use Prim.Native.Nat.{ℕ, _+_, _≤_, _<_}
 use native.Mathlib.Decide.{ℕ-discrete}
 use native.Mathlib.Omega.{arith}
-use lib.ListN.{length}
+use lib.ListN.{getD, length}
 use Rattle.format.specs.Numbers.{wordFrom}
 use Rattle.format.specs.declared.Report.{Report}
 use Rattle.format.specs.Bounds.{primeOf}
 use Rattle.field.specs.Primes.{modulusOf}
-use Rattle.poly.specs.Coefficients.{at}
 use Rattle.header.specs.Header.{boundsOf}
 use Rattle.job.proofs.Facts.{WellFormedFacts, well-formed-facts}
-use Rattle.word.specs.Word.{bitAt}
-use Rattle.word.proofs.Words.{bit-exactly}
+use Rattle.row_mask.specs.Word.{bitAt}
+use Rattle.row_mask.proofs.Words.{bit-exactly}
 use Rattle.problem.specs.Reduced.{Reduced}
 use Rattle.problem.specs.Answers.{wrongAt, wrongCount, Within}
 use Rattle.recovery.specs.Recovery.{Settled}
-use Rattle.enlargement.specs.Enlargement.{
-  AnsweredWith,
-  Named,
-  StandsAt,
-  HoldsRows,
-  HoldsSpeaking,
-  furtherRow,
-  furtherWrong,
-  MarkedAt,
-  Enlarged,
-  Comparable,
-  EnlargementRule,
-}
+use Rattle.enlargement.specs.Enlargement.{AnsweredWith, Named, StandsAt, HoldsRows, HoldsSpeaking, furtherRow, furtherWrong, SetAt, Enlarged, Comparable, EnlargementRule}
 use Rattle.enlargement.proofs.RowBytes.{same-wrong}
 use Rattle.enlargement.proofs.Exactly.{answered-named, named-answered, answered-word}
 use Rattle.enlargement.proofs.Enlarging.{wrong-adds, old-or-new}
@@ -57,11 +44,11 @@ module _ {s area : List ℕ} {r : Report} {after : List ℕ} (S : Settled s area
   within : Within (boundsOf s') f g
   within = record {
     numerators = λ i l. record {
-      residues = λ m. subst (λ p. at (f i) m < p) (sym same-prime) (N .answer .within .numerators i (lower i l) .residues m);
+      residues = λ m. subst (λ p. getD (f i) m 0 < p) (sym same-prime) (N .answer .within .numerators i (lower i l) .residues m);
       within = λ m h. C .meets .numerators i m l (omega arith);
     };
     denominator = record {
-      residues = λ m. subst (λ p. at g m < p) (sym same-prime) (N .answer .within .denominator .residues m);
+      residues = λ m. subst (λ p. getD g m 0 < p) (sym same-prime) (N .answer .within .denominator .residues m);
       within = λ m h. C .meets .denominator m (omega arith);
     };
   }
@@ -108,29 +95,29 @@ module _ {s area : List ℕ} {r : Report} {after : List ℕ} (S : Settled s area
     wrong-there : j < boundsOf s' .rows → (i : ℕ) → i < boundsOf s .rows → StandsAt s i s' j → wrongAt s f g i ≡ wrongAt s' f g j
     wrong-there l' i l e = same-wrong s s' same-outputs W W' i j l l' e (C .prime) f g
 
-    marked-wrong : j < boundsOf s' .rows → MarkedAt s after s' f g j → wrongAt s' f g j ≡ true
-    marked-wrong l' (inl t) =
+    set-wrong : j < boundsOf s' .rows → SetAt s after s' f g j → wrongAt s' f g j ≡ true
+    set-wrong l' (inl t) =
         sym (wrong-there l' (t .0) (t .1) (t .2)) ∙ bit (t .0) (let l = t .1 in let n = W .fields .rows-most in omega arith) .0 (t .3) .1
-    marked-wrong l' (inr t) = t .1
+    set-wrong l' (inr t) = t .1
 
-    wrong-marked : j < boundsOf s' .rows → wrongAt s' f g j ≡ true → MarkedAt s after s' f g j
-    wrong-marked l' e = by (old-or-new s s' W W' (C .prime) same-outputs j)
+    wrong-set : j < boundsOf s' .rows → wrongAt s' f g j ≡ true → SetAt s after s' f g j
+    wrong-set l' e = by (old-or-new s s' W W' (C .prime) same-outputs j)
       where
-        by : ((i : ℕ) × (i < boundsOf s .rows) × StandsAt s i s' j) ⊎ (furtherRow s s' j ≡ true) → MarkedAt s after s' f g j
+        by : ((i : ℕ) × (i < boundsOf s .rows) × StandsAt s i s' j) ⊎ (furtherRow s s' j ≡ true) → SetAt s after s' f g j
         by (inl t) =
             let l = t .1 in
             let n = W .fields .rows-most in
             inl (t .0, t .1, t .2, bit (t .0) (omega arith) .1 (t .1, wrong-there l' (t .0) (t .1) (t .2) ∙ e))
         by (inr h) = inr (h, e)
 
-    ones : j < boundsOf s' .rows → MarkedAt s after s' f g j → bitAt (wordFrom after') j ≡ 1
-    ones l m = bit' (let n = W' .fields .rows-most in omega arith) .1 (l, marked-wrong l m)
+    ones : j < boundsOf s' .rows → SetAt s after s' f g j → bitAt (wordFrom after') j ≡ 1
+    ones l m = bit' (let n = W' .fields .rows-most in omega arith) .1 (l, set-wrong l m)
 
-    zeros : j < 32 → ((j < boundsOf s' .rows) × MarkedAt s after s' f g j → ⊥) → bitAt (wordFrom after') j ≡ 0
+    zeros : j < 32 → ((j < boundsOf s' .rows) × SetAt s after s' f g j → ⊥) → bitAt (wordFrom after') j ≡ 0
     zeros l none = by (ℕ-discrete (bitAt (wordFrom after') j) 1)
       where
         by : Dec (bitAt (wordFrom after') j ≡ 1) → bitAt (wordFrom after') j ≡ 0
-        by (yes e) = let t = bit' l .0 e in absurd (none (t .0, wrong-marked (t .0) (t .1)))
+        by (yes e) = let t = bit' l .0 e in absurd (none (t .0, wrong-set (t .0) (t .1)))
         by (no n) = omega arith
 
   pub enlarged : Enlarged s after s' r' after' f g k

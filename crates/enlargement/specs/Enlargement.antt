@@ -6,15 +6,15 @@ use mathlib.Core.Logic.{_⊎_, _↔_}
 use mathlib.Core.List.{List, [], _∷_}
 use Prim.Native.Nat.{ℕ, _+_, _*_, _≤_, _<_}
 use lib.Dec.{eqb}
-use lib.ListN.{length, take, drop}
+use lib.ListN.{getD, length, take, drop}
 use Rattle.format.specs.Numbers.{numberFrom, wordFrom}
 use Rattle.format.specs.declared.Report.{Report}
 use Rattle.format.specs.Bounds.{numeratorBoundOf}
-use Rattle.poly.specs.Coefficients.{at}
-use Rattle.row_search.specs.Search.{anyBelow}
+use Rattle.lists.specs.Search.{anyBelow}
 use Rattle.header.specs.Header.{headerLengthOf, boundsOf}
 use Rattle.job.specs.Refusals.{WellFormed}
-use Rattle.word.specs.Word.{bitAt, countBelow}
+use Rattle.row_mask.specs.Word.{bitAt}
+use Rattle.lists.specs.Counting.{countBelow}
 use Rattle.marked_rows.specs.Marks.{speaks}
 use Rattle.answer.specs.Bytes.{numeratorStart}
 use Rattle.problem.specs.Answers.{Answer, wrongAt, wrongCount}
@@ -22,14 +22,14 @@ use Rattle.recovery.specs.Recovery.{Settled}
 
 -- no coefficient of f and g stands above the job's degree bounds
 pub record Meets (s : List ℕ) (f : ℕ → List ℕ) (g : List ℕ) : Type 0 where
-  pub denominator : (k : ℕ) → boundsOf s .dg < k → at g k ≡ 0
-  pub numerators : (i k : ℕ) → i < boundsOf s .outputs → numeratorBoundOf (boundsOf s) i < k → at (f i) k ≡ 0
+  pub denominator : (k : ℕ) → boundsOf s .dg < k → getD g k 0 ≡ 0
+  pub numerators : (i k : ℕ) → i < boundsOf s .outputs → numeratorBoundOf (boundsOf s) i < k → getD (f i) k 0 ≡ 0
 
 -- "its sheet lists the coefficients of this g and these fi", "with zeros up to its own bounds"
 pub record Lists (s after : List ℕ) (f : ℕ → List ℕ) (g : List ℕ) : Type 0 where
-  pub denominator : (k : ℕ) → k ≤ boundsOf s .dg → numberFrom after (4 + 2 * k) ≡ at g k
+  pub denominator : (k : ℕ) → k ≤ boundsOf s .dg → numberFrom after (4 + 2 * k) ≡ getD g k 0
   pub numerators : (i k : ℕ) → i < boundsOf s .outputs → k ≤ numeratorBoundOf (boundsOf s) i
-      → numberFrom after (numeratorStart (boundsOf s) i + 2 * k) ≡ at (f i) k
+      → numberFrom after (numeratorStart (boundsOf s) i + 2 * k) ≡ getD (f i) k 0
   pub meets : Meets s f g
 
 -- "A job is answered with f/g and k wrong rows when its call isn't refused, its sheet lists the coefficients of this g and these fi, and
@@ -82,8 +82,8 @@ abbrev pub furtherWrong : List ℕ → List ℕ → (ℕ → List ℕ) → List 
 furtherWrong s s' f g = countBelow (boundsOf s' .rows) (λ j. furtherRow s s' j && wrongAt s' f g j)
 
 -- "a 1 at the place in T' of each row that T's word marks and of each further row that is wrong for f/g"
-abbrev pub MarkedAt : List ℕ → List ℕ → List ℕ → (ℕ → List ℕ) → List ℕ → ℕ → Type 0
-MarkedAt s after s' f g j =
+abbrev pub SetAt : List ℕ → List ℕ → List ℕ → (ℕ → List ℕ) → List ℕ → ℕ → Type 0
+SetAt s after s' f g j =
     ((i : ℕ) × (i < boundsOf s .rows) × StandsAt s i s' j × (bitAt (wordFrom after) i ≡ 1))
     ⊎ ((furtherRow s s' j ≡ true) × (wrongAt s' f g j ≡ true))
 
@@ -92,10 +92,10 @@ MarkedAt s after s' f g j =
 pub record Enlarged (s after s' : List ℕ) (r' : Report) (after' : List ℕ) (f : ℕ → List ℕ) (g : List ℕ) (k : ℕ) : Type 0 where
   pub exactly : ((c : ℕ) × AnsweredWith s' r' after' f g c) ↔ (k + furtherWrong s s' f g ≤ boundsOf s' .errors)
   pub count : (c : ℕ) → AnsweredWith s' r' after' f g c → c ≡ k + furtherWrong s s' f g
-  pub ones : (c : ℕ) → AnsweredWith s' r' after' f g c → (j : ℕ) → j < boundsOf s' .rows → MarkedAt s after s' f g j
+  pub ones : (c : ℕ) → AnsweredWith s' r' after' f g c → (j : ℕ) → j < boundsOf s' .rows → SetAt s after s' f g j
       → bitAt (wordFrom after') j ≡ 1
   pub zeros : (c : ℕ) → AnsweredWith s' r' after' f g c → (j : ℕ) → j < 32
-      → ((j < boundsOf s' .rows) × MarkedAt s after s' f g j → ⊥) → bitAt (wordFrom after') j ≡ 0
+      → ((j < boundsOf s' .rows) × SetAt s after s' f g j → ⊥) → bitAt (wordFrom after') j ≡ 0
 
 -- the conditions on the two jobs: the same prime and n, T' well formed, T' holds rows of T, f and g within the bounds of T'. The flags may differ.
 pub record Comparable (Holds : List ℕ → List ℕ → Type 0) (s s' area' : List ℕ) (f : ℕ → List ℕ) (g : List ℕ) : Type 0 where

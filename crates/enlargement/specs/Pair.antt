@@ -40,7 +40,7 @@ abbrev pub markedJob : List ℕ
 markedJob =
     0x13 ∷ 0x00 ∷ 0x05 ∷ 0x00 ∷ 0x00 ∷ 0x08 ∷ 0x00 ∷ poleOf 3 ++ rowOf 2 2 3 ++ rowOf 0 5 3 ++ silentOf 4 ++ rowOf 1 5 3 ++ rowOf 5 5 3
 
--- Both with the flag. T: df 0, dg 1, E 1. For f and g below the pole is right and row 4 is wrong.
+-- RecoveryPair with the flag. T: df 0, dg 1, E 1. For f and g below the pole is right and row 4 is wrong.
 abbrev pub poleJob : List ℕ
 poleJob = 0x12 ∷ 0x80 ∷ 0x23 ∷ 0x00 ∷ 0x00 ∷ 0x08 ∷ 0x00 ∷ poleOf 0 ++ silentOf 4 ++ rowOf 1 1 3 ++ rowOf 2 4 5 ++ rowOf 3 0 0
 

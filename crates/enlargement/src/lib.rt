@@ -4,20 +4,25 @@ ghost use Rattle.enlargement.specs.Enlargement.{TwoCalls};
 use format::Outcome;
 
 // What two calls returned.
-pub struct Both {
+pub struct RecoveryPair {
     pub first: Outcome,
     pub second: Outcome,
 }
 
 // Demand 3, the enlargement rule: two jobs, each recovered by a call of its own.
-pub fn recover_both(job: &[u8], area: &mut [u8], larger_job: &[u8], larger_area: &mut [u8]) -> Both
+pub fn recover_both(
+    job: &[u8],
+    area: &mut [u8],
+    larger_job: &[u8],
+    larger_area: &mut [u8],
+) -> RecoveryPair
     ensures { λ r.
         ⌜ TwoCalls (now (job .entry)) (now (area .entry)) (reportOf (r .first)) (now (area .exit)) (now («larger_job» .entry)) (now («larger_area» .entry))
         (reportOf (r .second)) (now («larger_area» .exit)) ⌝ }
 {
     let first = recovery::recover(job, area);
     let second = recovery::recover(larger_job, larger_area);
-    Both {
+    RecoveryPair {
         first: first,
         second: second,
     }

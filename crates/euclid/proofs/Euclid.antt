@@ -6,13 +6,13 @@ use native.Mathlib.Decide.{ℕ-discrete}
 use native.Mathlib.Omega.{arith}
 use borrow.Author.Tests.{eq-eqb, ne-eqb}
 use Rattle.field.proofs.Primality.{IsPrime}
-use Rattle.poly.specs.Coefficients.{at, Bounded, Stored}
+use Rattle.poly.specs.Coefficients.{Bounded, Stored}
 use Rattle.poly.specs.Operations.{lengthOf}
 use Rattle.poly.proofs.Lengths.{length-at-most}
-use Rattle.division.specs.Division.{remainderOf, quotientOf}
+use Rattle.euclid.specs.Division.{remainderOf, quotientOf}
 use Rattle.euclid.specs.Euclid.{gcdFrom, gcdOf}
-use Rattle.division.proofs.Leading.{stored-bounded, bounded-stored, length-stored, divisor-of}
-use Rattle.division.proofs.Steps.{bounded-remainder, bounded-quotient, length-remainder, length-quotient}
+use Rattle.euclid.proofs.Leading.{stored-bounded, bounded-stored, length-stored, divisor-of}
+use Rattle.euclid.proofs.Steps.{bounded-remainder, bounded-quotient, length-remainder, length-quotient}
 
 from-stop : (p n : ℕ) (a b : List ℕ) → lengthOf b ≡ 0 → gcdFrom p n a b ≡ a
 unfolding gcdFrom

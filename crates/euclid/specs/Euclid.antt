@@ -4,7 +4,7 @@ use mathlib.Core.List.{List}
 use Prim.Native.Nat.{ℕ, zero, suc}
 use lib.Dec.{eqb}
 use Rattle.poly.specs.Operations.{lengthOf}
-use Rattle.division.specs.Division.{remainderOf}
+use Rattle.euclid.specs.Division.{remainderOf}
 
 -- Euclid's rule with at most n divisions: where b is zero, a; else the divisor of b and the remainder of a by b.
 unfoldable pub gcdFrom : ℕ → ℕ → List ℕ → List ℕ → List ℕ

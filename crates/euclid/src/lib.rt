@@ -1,4 +1,8 @@
 // The greatest common divisor of polynomials modulo one of the four primes. A length is the degree plus 1, and 0 for the zero polynomial.
+pub mod division;
+
+pub use division::Division;
+pub use division::divide;
 ghost use Prim.Native.Nat.{_≤_, max};
 ghost use mathlib.Core.Path.{_≡_};
 ghost use Rattle.field.specs.Primes.{modulusOf};

@@ -7,13 +7,13 @@ use native.Mathlib.Numerals.{add-one}
 use native.Mathlib.Decide.{decLt}
 use native.Mathlib.Omega.{arith}
 use lib.Dec.{ltb}
-use lib.ListN.{length, drop, replicate}
+use lib.ListN.{getD, length, drop, replicate}
 use borrow.Author.Tests.{lt-ltb, le-ltb}
 use Rattle.field.specs.declared.Prime.{Prime}
 use Rattle.field.specs.Primes.{modulusOf}
 use Rattle.field.proofs.Moduli.{modulus-positive, residue-below}
-use Rattle.montgomery.specs.Factors.{formOf}
-use Rattle.poly.specs.Coefficients.{at, Stored}
+use Rattle.montgomery.specs.Factors.{montgomeryForm}
+use Rattle.poly.specs.Coefficients.{Stored}
 use Rattle.poly.specs.Operations.{valueOf}
 use Rattle.lists.proofs.Tabulated.{at-tabulate, at-tabulate-past, at-past, at-zeros, is-tabulate, length-tabulate}
 use Rattle.poly.proofs.Lists.{bounded-tabulate}
@@ -24,29 +24,29 @@ use Rattle.lanes_meaning.proofs.Meaning.{horner-lane}
 use Rattle.evaluation.specs.Values.{eachPoint, formsOf, valuesOf, Formed}
 
 module _ (f : ℕ → ℕ) (points : List ℕ) (rows : ℕ) where
-  pub each-inside : (l : ℕ) → l < 32 → l < groupsOf rows → at (eachPoint f points rows) l ≡ f (at points l)
+  pub each-inside : (l : ℕ) → l < 32 → l < groupsOf rows → getD (eachPoint f points rows) l 0 ≡ f (getD points l 0)
   unfolding eachPoint
   each-inside l h g = at-tabulate 32 _ l h ∙ simp (lt-ltb _ _ g)
 
-  pub each-behind : (l : ℕ) → groupsOf rows ≤ l → at (eachPoint f points rows) l ≡ 0
+  pub each-behind : (l : ℕ) → groupsOf rows ≤ l → getD (eachPoint f points rows) l 0 ≡ 0
   unfolding eachPoint
   each-behind l g = go (decLt l 32)
     where
-      go : Dec (l < 32) → at (eachPoint f points rows) l ≡ 0
+      go : Dec (l < 32) → getD (eachPoint f points rows) l 0 ≡ 0
       go (yes h) = at-tabulate 32 _ l h ∙ simp (le-ltb _ _ g)
       go (no h) = at-tabulate-past 32 _ l (omega arith)
 
   -- an entry within the rows
-  pub at-row : {v : List ℕ} → v ≡ eachPoint f points rows → rows ≤ 32 → (l : ℕ) → l < rows → at v l ≡ f (at points l)
-  at-row e few l h = ap (λ (t : List ℕ). at t l) e ∙ each-inside l (omega arith) (omega arith)
+  pub at-row : {v : List ℕ} → v ≡ eachPoint f points rows → rows ≤ 32 → (l : ℕ) → l < rows → getD v l 0 ≡ f (getD points l 0)
+  at-row e few l h = ap (λ (t : List ℕ). getD t l 0) e ∙ each-inside l (omega arith) (omega arith)
 
   -- 32 entries that are f's within the groups, and 0 behind them
-  pub is-each : (v : List ℕ) → length v ≡ 32 → ((l : ℕ) → l < 32 → l < groupsOf rows → at v l ≡ f (at points l))
-      → ((l : ℕ) → groupsOf rows ≤ l → at v l ≡ 0) → v ≡ eachPoint f points rows
+  pub is-each : (v : List ℕ) → length v ≡ 32 → ((l : ℕ) → l < 32 → l < groupsOf rows → getD v l 0 ≡ f (getD points l 0))
+      → ((l : ℕ) → groupsOf rows ≤ l → getD v l 0 ≡ 0) → v ≡ eachPoint f points rows
   unfolding eachPoint
   is-each v size inside behind = is-tabulate 32 _ v size (λ l h. go l h (decLt l (groupsOf rows)))
     where
-      go : (l : ℕ) → l < 32 → Dec (l < groupsOf rows) → at v l ≡ cond (ltb l (groupsOf rows)) (f (at points l)) 0
+      go : (l : ℕ) → l < 32 → Dec (l < groupsOf rows) → getD v l 0 ≡ cond (ltb l (groupsOf rows)) (f (getD points l 0)) 0
       go l h (yes g) = inside l h g ∙ sym (simp (lt-ltb _ _ g))
       go l h (no g) = behind l (omega arith) ∙ sym (simp (le-ltb l (groupsOf rows) (omega arith)))
 
@@ -55,10 +55,10 @@ pub narrow-forms : (q : Prime) (points : List ℕ) (rows : ℕ) → Stored (modu
 unfolding eachPoint
 narrow-forms q points rows = record {
   size = length-tabulate 32 _;
-  below = bounded-tabulate (modulusOf q) (groupsOf rows) 32 _ (λ l. low (ltb l (groupsOf rows)) (at points l)) (λ l g. simp (le-ltb _ _ g)) .residues;
+  below = bounded-tabulate (modulusOf q) (groupsOf rows) 32 _ (λ l. low (ltb l (groupsOf rows)) (getD points l 0)) (λ l g. simp (le-ltb _ _ g)) .residues;
 }
   where
-    low : (inside : Bool) (x : ℕ) → cond inside (formOf (modulusOf q) x) 0 < modulusOf q
+    low : (inside : Bool) (x : ℕ) → cond inside (montgomeryForm (modulusOf q) x) 0 < modulusOf q
     low true x = residue-below q _
     low false x = modulus-positive q
 
@@ -66,15 +66,15 @@ pub narrow-formed : (q : Prime) {rows : ℕ} {xs : List ℕ} → Formed (modulus
 narrow-formed q h = rw (h .is) (narrow-forms q (h .points) _)
 
 -- before the first step: no coefficient is taken
-pub values-start : (p rows n : ℕ) (points a : List ℕ) → ((k : ℕ) → n ≤ k → at a k ≡ 0) → replicate 32 0 ≡ valuesOf p points rows (drop n a)
+pub values-start : (p rows n : ℕ) (points a : List ℕ) → ((k : ℕ) → n ≤ k → getD a k 0 ≡ 0) → replicate 32 0 ≡ valuesOf p points rows (drop n a)
 values-start p rows n points a past =
-    is-each _ points rows (replicate 32 0) refl (λ l h g. at-zeros 32 l ∙ sym (value-start p (at points l) n n a (omega arith) past))
+    is-each _ points rows (replicate 32 0) refl (λ l h g. at-zeros 32 l ∙ sym (value-start p (getD points l 0) n n a (omega arith) past))
     (λ l g. at-zeros 32 l)
 
 -- one coefficient more
 module _ {q : Prime} {ps vs : List ℕ} (cs : Constants q ps) (is : Inverses q vs) (rows : ℕ) (few : rows ≤ 32) (points a : List ℕ) where
   pub values-step : (xs v : List ℕ) (k c : ℕ) → xs ≡ formsOf (modulusAt ps) points rows → v ≡ valuesOf (modulusAt ps) points rows (drop (k + 1) a)
-      → k < length a → c ≡ at a k → c < modulusAt ps
+      → k < length a → c ≡ getD a k 0 → c < modulusAt ps
       → replaced 0 (groupsOf rows) (hornerLane ps vs xs v c) v ≡ valuesOf (modulusAt ps) points rows (drop k a)
   values-step xs v k c ex ev lk ec low =
       is-each _ points rows _ (length-replaced 0 (groupsOf rows) _ v) inside
@@ -83,19 +83,19 @@ module _ {q : Prime} {ps vs : List ℕ} (cs : Constants q ps) (is : Inverses q v
       p : ℕ
       p = modulusAt ps
 
-      inside : (l : ℕ) → l < 32 → l < groupsOf rows → at (replaced 0 (groupsOf rows) (hornerLane ps vs xs v c) v) l ≡ valueOf (modulusAt ps) (at points l) (drop k a)
+      inside : (l : ℕ) → l < 32 → l < groupsOf rows → getD (replaced 0 (groupsOf rows) (hornerLane ps vs xs v c) v) l 0 ≡ valueOf (modulusAt ps) (getD points l 0) (drop k a)
       inside l h g =
-          let form : at xs l ≡ formOf (modulusOf q) (at points l) =
-          rw (sym (cs .number)) (ap (λ (t : List ℕ). at t l) ex ∙ each-inside _ points rows l h g) in
-          let before : at v l ≡ valueOf p (at points l) (drop (k + 1) a) = ap (λ (t : List ℕ). at t l) ev ∙ each-inside _ points rows l h g in
-          let more : valueOf p (at points l) (drop k a) ≡ (at a k + at points l * valueOf p (at points l) (drop (k + 1) a)) % p =
-          rw add-one (value-more p (at points l) a k lk) in
+          let form : getD xs l 0 ≡ montgomeryForm (modulusOf q) (getD points l 0) =
+          rw (sym (cs .number)) (ap (λ (t : List ℕ). getD t l 0) ex ∙ each-inside _ points rows l h g) in
+          let before : getD v l 0 ≡ valueOf p (getD points l 0) (drop (k + 1) a) = ap (λ (t : List ℕ). getD t l 0) ev ∙ each-inside _ points rows l h g in
+          let more : valueOf p (getD points l 0) (drop k a) ≡ (getD a k 0 + getD points l 0 * valueOf p (getD points l 0) (drop (k + 1) a)) % p =
+          rw add-one (value-more p (getD points l 0) a k lk) in
           replaced-inside 0 (groupsOf rows) _ v l h (omega arith) g
-          ∙ horner-lane cs l h is xs (at points l) v c form (rw (sym (cs .number)) low)
+          ∙ horner-lane cs l h is xs (getD points l 0) v c form (rw (sym (cs .number)) low)
           ∙ rw (sym (cs .number), ec, before) (sym more)
 
-      behind : (l : ℕ) → groupsOf rows ≤ l → Dec (l < 32) → at (replaced 0 (groupsOf rows) (hornerLane ps vs xs v c) v) l ≡ 0
+      behind : (l : ℕ) → groupsOf rows ≤ l → Dec (l < 32) → getD (replaced 0 (groupsOf rows) (hornerLane ps vs xs v c) v) l 0 ≡ 0
       behind l g (yes h) =
-          replaced-behind 0 (groupsOf rows) _ v l h (omega arith) g ∙ ap (λ (t : List ℕ). at t l) ev
+          replaced-behind 0 (groupsOf rows) _ v l h (omega arith) g ∙ ap (λ (t : List ℕ). getD t l 0) ev
           ∙ each-behind (λ x. valueOf p x (drop (k + 1) a)) points rows l g
       behind l g (no h) = at-past (replaced 0 (groupsOf rows) (hornerLane ps vs xs v c) v) l (let n = length-replaced 0 (groupsOf rows) (hornerLane ps vs xs v c) v in omega arith)

@@ -1,22 +1,22 @@
 -- The values of polynomials at the points of a table of rows. They are computed for whole groups of eight rows, and are 0 behind them.
+use lib.ListN.{getD}
 use mathlib.Core.Path.{_≡_}
 use mathlib.Core.Bool.{cond}
 use mathlib.Core.List.{List}
 use Prim.Native.Nat.{ℕ}
 use lib.Dec.{ltb}
-use Rattle.montgomery.specs.Factors.{formOf}
+use Rattle.montgomery.specs.Factors.{montgomeryForm}
 use Rattle.lanes.specs.Lanes.{groupsOf}
 use Rattle.lists.specs.Tabulated.{tabulate}
-use Rattle.poly.specs.Coefficients.{at}
 use Rattle.poly.specs.Operations.{valueOf}
 
 -- f at each row's point, and 0 behind the groups
 unfoldable pub eachPoint : (f : ℕ → ℕ) (points : List ℕ) (rows : ℕ) → List ℕ
-eachPoint f points rows = tabulate 32 (λ l. cond (ltb l (groupsOf rows)) (f (at points l)) 0)
+eachPoint f points rows = tabulate 32 (λ l. cond (ltb l (groupsOf rows)) (f (getD points l 0)) 0)
 
 -- Montgomery's forms of the points
 abbrev pub formsOf : (p : ℕ) (points : List ℕ) (rows : ℕ) → List ℕ
-formsOf p points rows = eachPoint (formOf p) points rows
+formsOf p points rows = eachPoint (montgomeryForm p) points rows
 
 -- the values of a
 abbrev pub valuesOf : (p : ℕ) (points : List ℕ) (rows : ℕ) (a : List ℕ) → List ℕ

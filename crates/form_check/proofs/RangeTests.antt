@@ -10,26 +10,26 @@ use lib.ListN.{getD}
 use Rattle.field.specs.Primes.{modulusOf}
 use Rattle.field.proofs.Moduli.{modulus-prime, modulus-small, modulus-positive}
 use Rattle.header.specs.Header.{flagsOf, marksAllowed, boundsOf}
-use Rattle.header.proofs.Fields.{narrow}
+use Rattle.header.proofs.Fields.{fits-fields}
 use Rattle.job.specs.Refusals.{outOfRange}
 use Rattle.job.proofs.ArrayTests.{values-in-table}
-use Rattle.word.proofs.Counts.{count-all}
+use Rattle.lists.proofs.Counting.{count-all}
 use Rattle.lists.proofs.Truth.{or-false}
 use Rattle.lists.proofs.Tabulated.{at-tabulate}
-use Rattle.row_search.specs.declared.Found.{Found}
-use Rattle.row_search.specs.declared.Found.the-variants.{Nothing}
-use Rattle.row_search.specs.Search.{ifHolds, orElse, firstBelow, anyBelow, isFound}
-use Rattle.row_search.proofs.FirstBelow.{none-passes, any-passes, first-cong, first-shorter}
+use Rattle.lists.specs.declared.Found.{Found}
+use Rattle.lists.specs.declared.Found.the-variants.{Nothing}
+use Rattle.lists.specs.Search.{ifHolds, orElse, firstBelow, anyBelow, isFound}
+use Rattle.lists.proofs.FirstBelow.{none-passes, any-passes, first-cong, first-shorter}
 use Rattle.rows.specs.declared.Row.{Row}
 use Rattle.rows.specs.Rows.{jobPoint, jobValue, valueOrZero}
 use Rattle.rows.specs.Steps.{rowAt}
 use Rattle.marked_rows.specs.declared.Mark.{Mark}
 use Rattle.marked_rows.specs.declared.Mark.the-variants.{None}
-use Rattle.marked_rows.specs.declared.SettledRow.{SettledRow}
+use Rattle.marked_rows.specs.declared.RowConditions.{RowConditions}
 use Rattle.marked_rows.specs.Marks.{markAt, isUnmarked, speaking, speaks, speakingCount}
-use Rattle.marked_rows.specs.Table.{settledBy}
+use Rattle.marked_rows.specs.Table.{conditionsBy}
 use Rattle.marked_rows.proofs.Marks.{unmarked-if-not-allowed, unmarked-if-small}
-use Rattle.marked_rows.proofs.Entries.{settled-point, settled-value}
+use Rattle.marked_rows.proofs.Entries.{conditions-point, conditions-value}
 use Rattle.form_check.specs.Steps.{numberTooLarge}
 
 -- four tests after another one, in a row
@@ -61,7 +61,7 @@ module _ (s : List ℕ) (r : ℕ) where
   -- the test of a value that exists, and of one that does not
   value : (i : ℕ) → i < n → leb p (getD (rowAt s r .values) i 0) ≡ leb p (jobValue s r i)
   unfolding rowAt
-  value i l = ap (leb p) (at-tabulate 4 (valueOrZero s r) i (let h = narrow s in omega arith) ∙ simp (lt-ltb i n l))
+  value i l = ap (leb p) (at-tabulate 4 (valueOrZero s r) i (let h = fits-fields s in omega arith) ∙ simp (lt-ltb i n l))
 
   no-value : (i : ℕ) → n ≤ i → i < 4 → leb p (getD (rowAt s r .values) i 0) ≡ false
   unfolding rowAt
@@ -69,7 +69,7 @@ module _ (s : List ℕ) (r : ℕ) where
 
   values : anyBelow 4 (λ i. leb p (getD (rowAt s r .values) i 0)) ≡ anyBelow n (λ i. leb p (jobValue s r i))
   values =
-      ap isFound (first-shorter (λ i. leb p (getD (rowAt s r .values) i 0)) 4 n (narrow s .outputs-most) no-value ∙ first-cong n _ _ value)
+      ap isFound (first-shorter (λ i. leb p (getD (rowAt s r .values) i 0)) 4 n (fits-fields s .outputs-most) no-value ∙ first-cong n _ _ value)
 
   -- a row as it is read
   pub row-test : {q : ℕ} {row : Row} → q ≡ p → row ≡ rowAt s r → (leb q (row .point) || anyBelow 4 (λ i. leb q (getD (row .values) i 0))) ≡ numberTooLarge s r
@@ -78,13 +78,13 @@ module _ (s : List ℕ) (r : ℕ) where
       ∙ ap₂ _||_ (ap (leb p) (row-point s r)) values
 
   -- and by its mark
-  pub settled-test : {q : ℕ} {row : SettledRow} → q ≡ p → row ≡ settledBy (markAt s r) (rowAt s r)
+  pub settled-test : {q : ℕ} {row : RowConditions} → q ≡ p → row ≡ conditionsBy (markAt s r) (rowAt s r)
       → (leb q (row .point) || anyBelow 4 (λ i. leb q (getD (row .values) i 0))) ≡ outOfRange s r
   settled-test modulus settled =
       let m = markAt s r in
-      ap₂ (λ q (x : SettledRow). leb q (x .point) || anyBelow 4 (λ i. leb q (getD (x .values) i 0))) modulus settled
-      ∙ ap₂ _||_ (ap (leb p) (settled-point m (rowAt s r) ∙ row-point s r))
-      (ap isFound (first-cong 4 _ _ (λ i l. ap (leb p) (settled-value m (rowAt s r) i l)))
+      ap₂ (λ q (x : RowConditions). leb q (x .point) || anyBelow 4 (λ i. leb q (getD (x .values) i 0))) modulus settled
+      ∙ ap₂ _||_ (ap (leb p) (conditions-point m (rowAt s r) ∙ row-point s r))
+      (ap isFound (first-cong 4 _ _ (λ i l. ap (leb p) (conditions-value m (rowAt s r) i l)))
       ∙ values-in-table m p 4 (λ i. getD (rowAt s r .values) i 0) (modulus-prime (boundsOf s .prime) .two)
       ∙ ap (λ b. isUnmarked m && b) values)
 
@@ -95,7 +95,7 @@ module _ (s : List ℕ) (r : ℕ) where
   -- and a row of numbers below p is one
   unmarked-below : numberTooLarge s r ≡ false → markAt s r ≡ None
   unmarked-below e =
-      let some = narrow s .outputs-least in
+      let some = fits-fields s .outputs-least in
       let below = leb-false p (jobValue s r 0) (any-passes (λ i. leb p (jobValue s r i)) n (or-false (leb p (jobPoint s r)) _ e .1) 0 (omega arith)) in
       let small = modulus-small (boundsOf s .prime) in
       unmarked-if-small _ n (jobValue s r) 0 (omega arith) (omega arith)

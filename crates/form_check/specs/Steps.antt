@@ -7,8 +7,8 @@ use lib.Dec.{leb}
 use lib.ListN.{getD}
 use Rattle.field.specs.Primes.{modulusOf}
 use Rattle.header.specs.Header.{boundsOf}
-use Rattle.row_search.specs.declared.Found.the-variants.{Nothing}
-use Rattle.row_search.specs.Search.{firstBelow, anyBelow}
+use Rattle.lists.specs.declared.Found.the-variants.{Nothing}
+use Rattle.lists.specs.Search.{firstBelow, anyBelow}
 use Rattle.rows.specs.Rows.{jobPoint, jobValue}
 use Rattle.marked_rows.specs.Marks.{speakingCount}
 use Rattle.job.specs.Refusals.{outOfRange}

@@ -7,11 +7,11 @@ ghost use lib.Dec.{leb};
 ghost use lib.ListN.{length, getD};
 ghost use Rattle.field.specs.Primes.{modulusOf};
 ghost use Rattle.format.specs.declared.Outcome.the-variants.{Accepted};
-ghost use Rattle.header.specs.Header.{headerLengthOf, flagsOf, marksAllowed, boundsOf, headerOf, jobLengthOf, NarrowHeader};
+ghost use Rattle.header.specs.Header.{headerLengthOf, flagsOf, marksAllowed, boundsOf, headerOf, jobLengthOf, FitsHeader};
 ghost use Rattle.job.specs.Refusals.{rowTests};
 ghost use Rattle.job.specs.Form.{formOutcomeOf};
-ghost use Rattle.row_search.specs.declared.Found.the-variants.{Nothing};
-ghost use Rattle.row_search.specs.Search.{firstBelow, anyBelow};
+ghost use Rattle.lists.specs.declared.Found.the-variants.{Nothing};
+ghost use Rattle.lists.specs.Search.{firstBelow, anyBelow};
 ghost use Rattle.rows.specs.Rows.{jobPoint};
 ghost use Rattle.form_check.specs.Reports.{formReportOf};
 ghost use Rattle.form_check.specs.Steps.{numberTooLarge, Scanned};
@@ -21,8 +21,8 @@ use header::Header;
 use header::read_header;
 use header::rows_needed;
 use job::check_header;
-use marked_rows::settled;
-use row_search::Found;
+use lists::Found;
+use marked_rows::row_conditions;
 use row_search::first_repeated;
 use rows::row_at;
 
@@ -96,7 +96,7 @@ fn scan_marked(job: &[u8], start: usize, rows: usize, outputs: usize, p: u32) ->
     let mut speaking = 0;
     for r in 0..rows {
         let read = row_at(job, start, r, rows, outputs);
-        let row = settled(read, outputs, true);
+        let row = row_conditions(read, outputs, true);
         let sides = row.values;
         points[r] = row.point;
         speaking = speaking + row.speaking;
@@ -134,7 +134,7 @@ fn scan_rows(job: &[u8], start: usize, rows: usize, outputs: usize, marks: bool,
 
 // Tests 5, 12 and 6, where the earlier ones do not apply.
 fn check_rows(job: &[u8], header: Header) -> Outcome
-    requires { ⌜ (header ≡ headerOf (now job)) × NarrowHeader header × (length (now job) ≡ jobLengthOf header) ⌝ }
+    requires { ⌜ (header ≡ headerOf (now job)) × FitsHeader header × (length (now job) ≡ jobLengthOf header) ⌝ }
     ensures { λ r. ⌜ r ≡ rowTests (now (job .entry)) Accepted ⌝ }
 {
     let bounds = header.bounds;

@@ -5,23 +5,10 @@ use Prim.Native.Nat.{ℕ, _<_}
 use native.Mathlib.Omega.{arith}
 use lib.ListN.{getD}
 use Rattle.format.specs.declared.Reason.{Reason}
-use Rattle.format.specs.declared.Reason.the-variants.{
-  TooShort,
-  SpareBit,
-  ByteCount,
-  TooFewRows,
-  OutOfRange,
-  RepeatedPoint,
-  AreaTooShort,
-  NoAnswer,
-  TooManyRows,
-  NotReduced,
-  AddedHeader,
-  TooFewSpeaking,
-}
-use Rattle.format.specs.Outcomes.{numberOf}
+use Rattle.format.specs.declared.Reason.the-variants.{TooShort, SpareBit, ByteCount, TooFewRows, OutOfRange, RepeatedPoint, AreaTooShort, NoAnswer, TooManyRows, NotReduced, AddedHeader, TooFewSpeaking}
+use Rattle.format.specs.Outcomes.{refusalNumber}
 
-pub number-positive : (reason : Reason) → 0 < numberOf reason
+pub number-positive : (reason : Reason) → 0 < refusalNumber reason
 number-positive TooShort = omega arith
 number-positive SpareBit = omega arith
 number-positive ByteCount = omega arith
@@ -40,7 +27,7 @@ abbrev reasonAt : ℕ → Reason
 reasonAt n =
     getD (NoAnswer ∷ TooShort ∷ SpareBit ∷ ByteCount ∷ TooFewRows ∷ OutOfRange ∷ RepeatedPoint ∷ AreaTooShort ∷ NoAnswer ∷ TooManyRows ∷ NotReduced ∷ AddedHeader ∷ TooFewSpeaking ∷ []) n NoAnswer
 
-reason-of-number : (reason : Reason) → reasonAt (numberOf reason) ≡ reason
+reason-of-number : (reason : Reason) → reasonAt (refusalNumber reason) ≡ reason
 reason-of-number TooShort = refl
 reason-of-number SpareBit = refl
 reason-of-number ByteCount = refl
@@ -54,5 +41,5 @@ reason-of-number NotReduced = refl
 reason-of-number AddedHeader = refl
 reason-of-number TooFewSpeaking = refl
 
-pub number-injective : (q q' : Reason) → numberOf q ≡ numberOf q' → q ≡ q'
+pub number-injective : (q q' : Reason) → refusalNumber q ≡ refusalNumber q' → q ≡ q'
 number-injective q q' e = sym (reason-of-number q) ∙ ap reasonAt e ∙ reason-of-number q'

@@ -9,12 +9,12 @@ use lib.Dec.{ltb}
 use Rattle.lists.proofs.Order.{lt-or-ge}
 use native.Mathlib.Omega.{arith}
 use Rattle.format.specs.declared.Bounds.{Bounds}
-use Rattle.format.specs.Bounds.{numeratorBoundOf, largestBound, numeratorCount, Storable, Sized}
+use Rattle.format.specs.Bounds.{numeratorBoundOf, largestBound, numeratorCount, FitsPolynomials, EnoughRows}
 
-pub numerator-low : {b : Bounds} → Sized b → (j : ℕ) → numeratorBoundOf b j ≤ 30
+pub numerator-low : {b : Bounds} → EnoughRows b → (j : ℕ) → numeratorBoundOf b j ≤ 30
 numerator-low s j = let e = s .enough j in let r = s .rows in omega arith
 
-pub denominator-low : {b : Bounds} → Sized b → b .dg + 2 * b .errors ≤ 30
+pub denominator-low : {b : Bounds} → EnoughRows b → b .dg + 2 * b .errors ≤ 30
 denominator-low s = let e = s .enough 0 in let r = s .rows in omega arith
 
 -- the first outputs have no more coefficients than more of them

@@ -29,13 +29,13 @@ abbrev pub answerLengthOf : Bounds → ℕ
 answerLengthOf b = 4 + 2 * ((b .dg + 1) + numeratorCount b (b .outputs))
 
 -- the bounds of an answer that a polynomial of 32 coefficients for g and 4 of them for the f's can hold
-pub record Storable (b : Bounds) : Type 0 where
+pub record FitsPolynomials (b : Bounds) : Type 0 where
   pub few : b .outputs ≤ 4
   pub denominator-low : b .dg ≤ 31
   pub numerators-low : (i : ℕ) → i < b .outputs → numeratorBoundOf b i ≤ 31
 
 -- bounds of a job with enough rows, for which every array is long enough
-pub record Sized (b : Bounds) : Type 0 where
+pub record EnoughRows (b : Bounds) : Type 0 where
   pub outputs : b .outputs ≤ 4
   pub rows : b .rows ≤ 31
   pub enough : (i : ℕ) → numeratorBoundOf b i + b .dg + 2 * b .errors + 1 ≤ b .rows

@@ -1,20 +1,7 @@
 -- An outcome in the papers' numbers.
 use Prim.Native.Nat.{ℕ}
 use Rattle.format.specs.declared.Reason.{Reason}
-use Rattle.format.specs.declared.Reason.the-variants.{
-  TooShort,
-  SpareBit,
-  ByteCount,
-  TooFewRows,
-  OutOfRange,
-  RepeatedPoint,
-  AreaTooShort,
-  NoAnswer,
-  TooManyRows,
-  NotReduced,
-  AddedHeader,
-  TooFewSpeaking,
-}
+use Rattle.format.specs.declared.Reason.the-variants.{TooShort, SpareBit, ByteCount, TooFewRows, OutOfRange, RepeatedPoint, AreaTooShort, NoAnswer, TooManyRows, NotReduced, AddedHeader, TooFewSpeaking}
 use Rattle.format.specs.declared.Report.{Report}
 use Rattle.format.specs.declared.Outcome.{Outcome}
 use Rattle.format.specs.declared.Outcome.the-variants.{Accepted, Recovered, Refused}
@@ -23,19 +10,19 @@ use Rattle.format.specs.declared.Writing.{Writing}
 use Rattle.format.specs.declared.Writing.the-variants as writing
 
 -- the number of a refusal: 1 to 8 in paper 01's table, 9 and 10 in paper 02, item 1, 11 in item 5, 12 in item 6
-abbrev pub numberOf : Reason → ℕ
-numberOf TooShort = 1
-numberOf SpareBit = 2
-numberOf ByteCount = 3
-numberOf TooFewRows = 4
-numberOf OutOfRange = 5
-numberOf RepeatedPoint = 6
-numberOf AreaTooShort = 7
-numberOf NoAnswer = 8
-numberOf TooManyRows = 9
-numberOf NotReduced = 10
-numberOf AddedHeader = 11
-numberOf TooFewSpeaking = 12
+abbrev pub refusalNumber : Reason → ℕ
+refusalNumber TooShort = 1
+refusalNumber SpareBit = 2
+refusalNumber ByteCount = 3
+refusalNumber TooFewRows = 4
+refusalNumber OutOfRange = 5
+refusalNumber RepeatedPoint = 6
+refusalNumber AreaTooShort = 7
+refusalNumber NoAnswer = 8
+refusalNumber TooManyRows = 9
+refusalNumber NotReduced = 10
+refusalNumber AddedHeader = 11
+refusalNumber TooFewSpeaking = 12
 
 -- "A refusal carries its number and the row it speaks of": it writes nothing, and no rows are counted
 abbrev pub refusedReport : (number row : ℕ) → Report
@@ -49,7 +36,7 @@ recoveredReport bytes wrong = record { refusal = 0; row = 0; written = bytes; wr
 abbrev pub reportOf : Outcome → Report
 reportOf Accepted = recoveredReport 0 0
 reportOf (Recovered bytes wrong) = recoveredReport bytes wrong
-reportOf (Refused reason row) = refusedReport (numberOf reason) row
+reportOf (Refused reason row) = refusedReport (refusalNumber reason) row
 
 -- the same of a call that writes and recovers nothing
 abbrev pub refusedWriting : (number row : ℕ) → WritingReport
@@ -60,4 +47,4 @@ writtenReport bytes = record { refusal = 0; row = 0; written = bytes }
 
 abbrev pub writingReportOf : Writing → WritingReport
 writingReportOf (writing.Written bytes) = writtenReport bytes
-writingReportOf (writing.Refused reason row) = refusedWriting (numberOf reason) row
+writingReportOf (writing.Refused reason row) = refusedWriting (refusalNumber reason) row

@@ -3,8 +3,8 @@ ghost use Prim.Native.Nat.{_≤_, _<_};
 ghost use mathlib.Core.Bool.{cond};
 ghost use mathlib.Core.Path.{_≡_};
 ghost use lib.Dec.{ltb};
-ghost use Rattle.format.specs.Bounds.{numeratorBoundOf, largestBound, answerLengthOf, Storable};
-ghost use Rattle.format.specs.Outcomes.{numberOf, reportOf};
+ghost use Rattle.format.specs.Bounds.{numeratorBoundOf, largestBound, answerLengthOf, FitsPolynomials};
+ghost use Rattle.format.specs.Outcomes.{refusalNumber, reportOf};
 use field::Prime;
 
 // What a header fixes: the prime, n outputs, L rows, the degree bounds of f1 to f4 and of g, E.
@@ -49,7 +49,7 @@ impl Bounds {
 
     // How many bytes an answer has.
     pub fn answer_length(self) -> usize
-        requires { ⌜ Storable self ⌝ }
+        requires { ⌜ FitsPolynomials self ⌝ }
         ensures { λ r. ⌜ r ≡ answerLengthOf self ⌝ }
     {
         let n = self.outputs;
@@ -86,8 +86,8 @@ pub enum Outcome {
 }
 
 // The refusal's number in the papers.
-pub fn number(reason: Reason) -> u32
-    ensures { λ r. ⌜ r ≡ numberOf reason ⌝ }
+pub fn refusal_number(reason: Reason) -> u32
+    ensures { λ r. ⌜ r ≡ refusalNumber reason ⌝ }
 {
     match reason {
         Reason::TooShort => 1,
@@ -132,7 +132,7 @@ pub fn reported(outcome: Outcome) -> Report
             wrong: wrong,
         },
         Outcome::Refused { reason, row } => {
-            let refusal = number(reason);
+            let refusal = refusal_number(reason);
             Report {
                 refusal: refusal,
                 row: row,

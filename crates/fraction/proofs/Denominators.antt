@@ -1,4 +1,5 @@
 -- Neither the greatest common divisor nor the denominator in lowest terms is zero, where the denominator before is not.
+use lib.ListN.{getD}
 use mathlib.Core.Path.{_≡_, sym, ap, _∙_}
 use mathlib.Core.List.{List}
 use Prim.Native.Nat.{ℕ, _-_, _*_, _%_, _<_}
@@ -8,33 +9,33 @@ use Rattle.reciprocal.specs.declared.OptionalReciprocal.the-variants.{Number}
 use Rattle.reciprocal.specs.Reciprocals.{reciprocalOf}
 use Rattle.field.proofs.Primality.{IsPrime}
 use Rattle.reciprocal.proofs.PrimeField.{residueRing}
-use Rattle.poly.specs.Coefficients.{at, Stored}
+use Rattle.poly.specs.Coefficients.{Stored}
 use Rattle.poly.specs.Operations.{lengthOf, scaledAt, scaledOf}
 use Rattle.lists.proofs.Tabulated.{at-tabulate}
 use Rattle.poly.proofs.Lengths.{length-past}
 use Rattle.poly_meaning.proofs.Degrees.{null-length, length-means-null}
-use Rattle.division.specs.Division.{quotientOf, degreeOf, leadingReciprocal}
+use Rattle.euclid.specs.Division.{quotientOf, degreeOf, leadingReciprocal}
 use Rattle.euclid.specs.Euclid.{gcdOf}
-use Rattle.division.proofs.Leading.{Divisor, stored-bounded, length-stored, divisor-of, leading-residue, leading-number, leading-inverts}
+use Rattle.euclid.proofs.Leading.{Divisor, stored-bounded, length-stored, divisor-of, leading-residue, leading-number, leading-inverts}
 use Rattle.euclid.proofs.Euclid.{stored-quotient, gcd-stored, gcd-zero}
-use Rattle.euclid_meaning.proofs.Division.{exact-quotient}
-use Rattle.euclid_meaning.proofs.Euclid.{gcd-means}
-use Rattle.fraction.specs.LowestTerms.{unitOf, scaledBy, numeratorOf, denominatorOf}
+use Rattle.poly_meaning.proofs.Division.{exact-quotient}
+use Rattle.poly_meaning.proofs.Euclid.{gcd-means}
+use Rattle.fraction.specs.LowestTerms.{unitOf, scaledBy, reducedNumerator, reducedDenominator}
 
 -- the unit that the code computes from the quotient h and its length
-pub unit-is : (p : ℕ) {k n : ℕ} (a b : List ℕ) {h : List ℕ} → h ≡ quotientOf p b (gcdOf p a b) → n ≡ lengthOf h → Number k ≡ reciprocalOf p (at h (n - 1))
+pub unit-is : (p : ℕ) {k n : ℕ} (a b : List ℕ) {h : List ℕ} → h ≡ quotientOf p b (gcdOf p a b) → n ≡ lengthOf h → Number k ≡ reciprocalOf p (getD h (n - 1) 0)
     → Number k ≡ unitOf p a b
 unfolding unitOf leadingReciprocal degreeOf
-unit-is p a b {h} eh en ek = ek ∙ ap (λ (t : ℕ). reciprocalOf p (at h (t - 1))) en ∙ ap (λ (t : List ℕ). reciprocalOf p (at t (lengthOf t - 1))) eh
+unit-is p a b {h} eh en ek = ek ∙ ap (λ (t : ℕ). reciprocalOf p (getD h (t - 1) 0)) en ∙ ap (λ (t : List ℕ). reciprocalOf p (getD t (lengthOf t - 1) 0)) eh
 
 -- the definitions, where k is the unit
 module _ (p : ℕ) (a b : List ℕ) {k : ℕ} (u : Number k ≡ unitOf p a b) where
-  pub numerator-scaled : numeratorOf p a b ≡ scaledOf p k (quotientOf p a (gcdOf p a b))
-  unfolding numeratorOf
+  pub numerator-scaled : reducedNumerator p a b ≡ scaledOf p k (quotientOf p a (gcdOf p a b))
+  unfolding reducedNumerator
   numerator-scaled = ap (λ r. scaledBy p r (quotientOf p a (gcdOf p a b))) (sym u)
 
-  pub denominator-scaled : denominatorOf p a b ≡ scaledOf p k (quotientOf p b (gcdOf p a b))
-  unfolding denominatorOf
+  pub denominator-scaled : reducedDenominator p a b ≡ scaledOf p k (quotientOf p b (gcdOf p a b))
+  unfolding reducedDenominator
   denominator-scaled = ap (λ r. scaledBy p r (quotientOf p b (gcdOf p a b))) (sym u)
 
 -- b divided by the greatest common divisor of a and b
@@ -58,7 +59,7 @@ module _ {p : ℕ} (P : IsPrime p) {a b : List ℕ} (sa : Stored p a) (sb : Stor
   quotient-divisor = divisor-of P denominator-stored quotient-nonzero
 
   -- its leading coefficient, as the code has it, is not 0 modulo p ..
-  pub quotient-leading : {h : List ℕ} {n : ℕ} → h ≡ quotientOf p b (gcdOf p a b) → n ≡ lengthOf h → 0 < at h (n - 1) % p
+  pub quotient-leading : {h : List ℕ} {n : ℕ} → h ≡ quotientOf p b (gcdOf p a b) → n ≡ lengthOf h → 0 < getD h (n - 1) 0 % p
   quotient-leading eh en = rw (en, eh) (leading-residue quotient-divisor)
 
   -- .. so there is a unit
@@ -66,12 +67,12 @@ module _ {p : ℕ} (P : IsPrime p) {a b : List ℕ} (sa : Stored p a) (sb : Stor
   unfolding unitOf
   unit-number = leading-number quotient-divisor
 
-  pub unit-inverts : {k : ℕ} → Number k ≡ unitOf p a b → k * at (quotientOf p b (gcdOf p a b)) (lengthOf (quotientOf p b (gcdOf p a b)) - 1) % p ≡ 1
+  pub unit-inverts : {k : ℕ} → Number k ≡ unitOf p a b → k * getD (quotientOf p b (gcdOf p a b)) (lengthOf (quotientOf p b (gcdOf p a b)) - 1) 0 % p ≡ 1
   unfolding unitOf
   unit-inverts u = leading-inverts quotient-divisor u
 
   -- the denominator's leading coefficient is 1
-  denominator-top : at (denominatorOf p a b) (lengthOf (quotientOf p b (gcdOf p a b)) - 1) ≡ 1
+  denominator-top : getD (reducedDenominator p a b) (lengthOf (quotientOf p b (gcdOf p a b)) - 1) 0 ≡ 1
   unfolding scaledOf scaledAt
   denominator-top =
       let u = unit-number .1 in
@@ -79,9 +80,9 @@ module _ {p : ℕ} (P : IsPrime p) {a b : List ℕ} (sa : Stored p a) (sb : Stor
       let positive = quotient-divisor .positive in
       rw (denominator-scaled p a b u) (at-tabulate 32 _ _ (omega arith) ∙ unit-inverts u)
 
-  pub denominator-nonzero : 0 < lengthOf (denominatorOf p a b)
+  pub denominator-nonzero : 0 < lengthOf (reducedDenominator p a b)
   denominator-nonzero =
       let top = denominator-top in
-      let nonzero : lengthOf (denominatorOf p a b) ≡ 0 → ⊥ =
-      λ e. (let past = length-past (denominatorOf p a b) (lengthOf (quotientOf p b (gcdOf p a b)) - 1) (omega arith) in omega arith) in
+      let nonzero : lengthOf (reducedDenominator p a b) ≡ 0 → ⊥ =
+      λ e. (let past = length-past (reducedDenominator p a b) (lengthOf (quotientOf p b (gcdOf p a b)) - 1) (omega arith) in omega arith) in
       omega arith

@@ -5,7 +5,7 @@ use Prim.Native.Nat.{ℕ}
 use Rattle.reciprocal.specs.declared.OptionalReciprocal.{OptionalReciprocal}
 use Rattle.reciprocal.specs.declared.OptionalReciprocal.the-variants.{Number, None}
 use Rattle.poly.specs.Operations.{scaledOf}
-use Rattle.division.specs.Division.{quotientOf, leadingReciprocal}
+use Rattle.euclid.specs.Division.{quotientOf, leadingReciprocal}
 use Rattle.euclid.specs.Euclid.{gcdOf}
 
 -- the reciprocal of the leading coefficient of b divided by the greatest common divisor of a and b; there is none where b is zero
@@ -17,8 +17,8 @@ abbrev pub scaledBy : ℕ → OptionalReciprocal → List ℕ → List ℕ
 scaledBy p (Number k) c = scaledOf p k c
 scaledBy p None c = c
 
-unfoldable pub numeratorOf : ℕ → List ℕ → List ℕ → List ℕ
-numeratorOf p a b = scaledBy p (unitOf p a b) (quotientOf p a (gcdOf p a b))
+unfoldable pub reducedNumerator : ℕ → List ℕ → List ℕ → List ℕ
+reducedNumerator p a b = scaledBy p (unitOf p a b) (quotientOf p a (gcdOf p a b))
 
-unfoldable pub denominatorOf : ℕ → List ℕ → List ℕ → List ℕ
-denominatorOf p a b = scaledBy p (unitOf p a b) (quotientOf p b (gcdOf p a b))
+unfoldable pub reducedDenominator : ℕ → List ℕ → List ℕ → List ℕ
+reducedDenominator p a b = scaledBy p (unitOf p a b) (quotientOf p b (gcdOf p a b))

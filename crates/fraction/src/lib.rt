@@ -4,7 +4,7 @@ ghost use mathlib.Core.Path.{_≡_};
 ghost use Rattle.field.specs.Primes.{modulusOf};
 ghost use Rattle.poly.specs.Coefficients.{Bounded};
 ghost use Rattle.poly.specs.Operations.{lengthOf};
-ghost use Rattle.fraction.specs.LowestTerms.{numeratorOf, denominatorOf};
+ghost use Rattle.fraction.specs.LowestTerms.{reducedNumerator, reducedDenominator};
 use field::Prime;
 use poly::Poly;
 
@@ -17,22 +17,22 @@ pub struct Fraction {
 pub fn lowest_terms(q: Prime, n: usize, phi: Poly, psi: Poly) -> Fraction
     requires { ⌜ (n ≤ 32) × Bounded (modulusOf q) n (phi .c) × Bounded (modulusOf q) n (psi .c) × (0 < lengthOf (psi .c)) ⌝ }
     ensures { λ r.
-        ⌜ (r .numerator .c ≡ numeratorOf (modulusOf q) (phi .c) (psi .c)) × Bounded (modulusOf q) n (r .numerator .c)
-        × (r .denominator .c ≡ denominatorOf (modulusOf q) (phi .c) (psi .c)) × Bounded (modulusOf q) n (r .denominator .c)
+        ⌜ (r .numerator .c ≡ reducedNumerator (modulusOf q) (phi .c) (psi .c)) × Bounded (modulusOf q) n (r .numerator .c)
+        × (r .denominator .c ≡ reducedDenominator (modulusOf q) (phi .c) (psi .c)) × Bounded (modulusOf q) n (r .denominator .c)
         × (0 < lengthOf (r .denominator .c)) ⌝ }
 {
     let la = poly::length(n, phi);
     let lb = poly::length(n, psi);
     let c = euclid::gcd(q, phi, la, psi, lb);
     let lc = poly::length(n, c);
-    let a = division::divide(q, phi, la, c, lc);
-    let h = division::divide(q, psi, lb, c, lc);
+    let a = euclid::divide(q, phi, la, c, lc);
+    let h = euclid::divide(q, psi, lb, c, lc);
     let numerator = a.quotient;
     let denominator = h.quotient;
     let lh = poly::length(n, denominator);
     let k = reciprocal::nonzero_reciprocal(q, denominator.c[lh - 1]);
     Fraction {
-        numerator: poly_scaled::scaled(q, n, k, numerator),
-        denominator: poly_scaled::scaled(q, n, k, denominator),
+        numerator: poly::scaled(q, n, k, numerator),
+        denominator: poly::scaled(q, n, k, denominator),
     }
 }

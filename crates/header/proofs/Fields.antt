@@ -8,14 +8,14 @@ use native.Mathlib.Omega.{arith}
 use Rattle.lists.proofs.Tabulated.{at-tabulate, at-tabulate-past}
 use lib.Dec.{ltb, eqb}
 use Rattle.format.specs.declared.Bounds.{Bounds}
-use Rattle.format.specs.Bounds.{numeratorBoundOf, Storable}
+use Rattle.format.specs.Bounds.{numeratorBoundOf, FitsPolynomials}
 use Rattle.cursor.specs.Bits.{fieldOf}
 use Rattle.cursor.proofs.Fields.{field-below}
-use Rattle.header.specs.Header.{outputsOf, dfOf, spareBitOf, numeratorBoundsOf, boundsOf, headerOf, Narrow, NarrowHeader}
+use Rattle.header.specs.Header.{outputsOf, dfOf, spareBitOf, numeratorBoundsOf, boundsOf, headerOf, FitsFields, FitsHeader}
 
-pub narrow : (s : List ℕ) → Narrow (boundsOf s)
+pub fits-fields : (s : List ℕ) → FitsFields (boundsOf s)
 unfolding boundsOf outputsOf
-narrow s = record {
+fits-fields s = record {
   outputs-least = omega arith;
   outputs-most = omega (arith, field-below s 2 2);
   rows-most = omega (arith, field-below s 4 5);
@@ -23,9 +23,9 @@ narrow s = record {
   errors-most = omega (arith, field-below s 19 4);
 }
 
-pub narrow-header : (s : List ℕ) → NarrowHeader (headerOf s)
+pub fits-header : (s : List ℕ) → FitsHeader (headerOf s)
 unfolding dfOf spareBitOf
-narrow-header s = record { bounds = narrow s; df-most = omega (arith, field-below s 9 5); length-most = omega (arith, field-below s 23 1) }
+fits-header s = record { bounds = fits-fields s; df-most = omega (arith, field-below s 9 5); length-most = omega (arith, field-below s 23 1) }
 
 -- the bound of each output, by the spare bit
 pub bound-at : (s : List ℕ) (i : ℕ) → i < 4
@@ -37,11 +37,11 @@ pub bound-past : (s : List ℕ) (i : ℕ) → 4 ≤ i → numeratorBoundOf (boun
 unfolding boundsOf numeratorBoundsOf
 bound-past s i l = at-tabulate-past 4 _ i l
 
-pub storable : (s : List ℕ) → Storable (boundsOf s)
-storable s = record {
-  few = narrow s .outputs-most;
-  denominator-low = narrow s .dg-most;
-  numerators-low = λ i l. by i (omega (arith, narrow s .outputs-most));
+pub fits-polynomials : (s : List ℕ) → FitsPolynomials (boundsOf s)
+fits-polynomials s = record {
+  few = fits-fields s .outputs-most;
+  denominator-low = fits-fields s .dg-most;
+  numerators-low = λ i l. by i (omega (arith, fits-fields s .outputs-most));
 }
   where
     low : (spare exists : Bool) (own df : ℕ) → own ≤ 31 → df ≤ 31 → cond spare own (cond exists df 0) ≤ 31
@@ -51,8 +51,8 @@ storable s = record {
 
     by : (i : ℕ) → i < 4 → numeratorBoundOf (boundsOf s) i ≤ 31
     by i l =
-        rw (bound-at s i l) (low (eqb (spareBitOf s) 1) (ltb i (outputsOf s)) _ (dfOf s) (omega (arith, field-below s (24 + 5 * i) 5)) (narrow-header s .df-most))
+        rw (bound-at s i l) (low (eqb (spareBitOf s) 1) (ltb i (outputsOf s)) _ (dfOf s) (omega (arith, field-below s (24 + 5 * i) 5)) (fits-header s .df-most))
 
 -- the bytes of all rows
-pub rows-bytes : (b : Bounds) → Narrow b → 2 * b .rows * (1 + b .outputs) ≤ 310
+pub rows-bytes : (b : Bounds) → FitsFields b → 2 * b .rows * (1 + b .outputs) ≤ 310
 rows-bytes b h = mul-le-mul {n₂ = 62} {m₂ = 5} (omega arith) (omega arith)

@@ -61,14 +61,14 @@ abbrev pub rowsNeededOf : Header → ℕ
 rowsNeededOf h = h .df + h .bounds .dg + 2 * h .bounds .errors + 1
 
 -- what fits the header's fields
-pub record Narrow (b : Bounds) : Type 0 where
+pub record FitsFields (b : Bounds) : Type 0 where
   pub outputs-least : 1 ≤ b .outputs
   pub outputs-most : b .outputs ≤ 4
   pub rows-most : b .rows ≤ 31
   pub dg-most : b .dg ≤ 31
   pub errors-most : b .errors ≤ 15
 
-pub record NarrowHeader (h : Header) : Type 0 where
-  pub bounds : Narrow (h .bounds)
+pub record FitsHeader (h : Header) : Type 0 where
+  pub bounds : FitsFields (h .bounds)
   pub df-most : h .df ≤ 31
   pub length-most : h .length ≤ 7

@@ -5,7 +5,7 @@ ghost use mathlib.Core.Path.{_≡_};
 ghost use lib.Dec.{ltb, eqb};
 ghost use Rattle.lists.specs.Tabulated.{tabulate};
 ghost use Rattle.cursor.specs.Bits.{fieldOf};
-ghost use Rattle.header.specs.Header.{headerOf, jobLengthOf, rowsNeededOf, NarrowHeader};
+ghost use Rattle.header.specs.Header.{headerOf, jobLengthOf, rowsNeededOf, FitsHeader};
 use cursor::Cursor;
 use cursor::Field;
 use format::Bounds;
@@ -110,7 +110,7 @@ pub fn read_header(s: &[u8]) -> Header
 
 // The bytes of a job with this header.
 pub fn job_length(h: Header) -> usize
-    requires { ⌜ NarrowHeader h ⌝ }
+    requires { ⌜ FitsHeader h ⌝ }
     ensures { λ r. ⌜ r ≡ jobLengthOf h ⌝ }
 {
     let b = h.bounds;
@@ -119,7 +119,7 @@ pub fn job_length(h: Header) -> usize
 
 // The fewest rows by which an answer within these bounds is found.
 pub fn rows_needed(h: Header) -> usize
-    requires { ⌜ NarrowHeader h ⌝ }
+    requires { ⌜ FitsHeader h ⌝ }
     ensures { λ r. ⌜ r ≡ rowsNeededOf h ⌝ }
 {
     let b = h.bounds;

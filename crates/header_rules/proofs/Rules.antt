@@ -15,9 +15,9 @@ use Rattle.format.specs.declared.Outcome.the-variants.{Accepted, Refused}
 use Rattle.format.specs.Bounds.{numeratorBoundOf, largestBound}
 use Rattle.format.proofs.Sizes.{largest-above}
 use Rattle.cursor.proofs.Fields.{field-below}
-use Rattle.row_search.proofs.FirstBelow.{any-passes}
+use Rattle.lists.proofs.FirstBelow.{any-passes}
 use Rattle.header.specs.Header.{outputsOf, dfOf, spareBitOf, flagsOf, boundsOf}
-use Rattle.header.proofs.Fields.{narrow, bound-at, bound-past}
+use Rattle.header.proofs.Fields.{fits-fields, bound-at, bound-past}
 use Rattle.header_rules.specs.Rules.{boundsAbsent, addedHeaderBroken}
 
 -- a short header breaks none

@@ -9,7 +9,7 @@ use Rattle.format.specs.declared.Reason.the-variants.{TooShort, AddedHeader}
 use Rattle.format.specs.declared.Outcome.{Outcome}
 use Rattle.format.specs.declared.Outcome.the-variants.{Accepted, Refused}
 use Rattle.format.specs.Bounds.{numeratorBoundOf, largestBound}
-use Rattle.row_search.specs.Search.{anyBelow}
+use Rattle.lists.specs.Search.{anyBelow}
 use Rattle.header.specs.declared.Header.{Header}
 use Rattle.header.specs.Header.{headerLengthOf, headerOf}
 
@@ -33,8 +33,8 @@ abbrev pub addedHeaderBroken : List ℕ → Bool
 addedHeaderBroken s = breaksRule (headerOf s)
 
 -- the first of tests 1 and 11 that applies to so many bytes that begin with a header, and where neither does what the later ones say
-abbrev pub examinedThen : (bytes : ℕ) → Header → Outcome → Outcome
-examinedThen bytes h later = cond (ltb bytes (h .length)) (Refused TooShort 0) (cond (breaksRule h) (Refused AddedHeader 0) later)
+abbrev pub rulesThen : (bytes : ℕ) → Header → Outcome → Outcome
+rulesThen bytes h later = cond (ltb bytes (h .length)) (Refused TooShort 0) (cond (breaksRule h) (Refused AddedHeader 0) later)
 
-abbrev pub examinedOf : (bytes : ℕ) → Header → Outcome
-examinedOf bytes h = examinedThen bytes h Accepted
+abbrev pub rulesOutcomeOf : (bytes : ℕ) → Header → Outcome
+rulesOutcomeOf bytes h = rulesThen bytes h Accepted

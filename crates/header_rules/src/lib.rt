@@ -1,8 +1,8 @@
 // Refusals 1 and 11: what a header alone decides.
 ghost use Prim.Native.Nat.{_≤_};
 ghost use mathlib.Core.Path.{_≡_};
-ghost use Rattle.header.specs.Header.{NarrowHeader};
-ghost use Rattle.header_rules.specs.Rules.{boundsAbsent, breaksRule, examinedOf};
+ghost use Rattle.header.specs.Header.{FitsHeader};
+ghost use Rattle.header_rules.specs.Rules.{boundsAbsent, breaksRule, rulesOutcomeOf};
 use format::Bounds;
 use format::Outcome;
 use format::Reason;
@@ -33,9 +33,9 @@ fn breaks_rule(h: Header) -> bool
 }
 
 // The first of tests 1 and 11 that applies to so many bytes that begin with this header.
-pub fn examine(bytes: usize, header: Header) -> Outcome
-    requires { ⌜ NarrowHeader header ⌝ }
-    ensures { λ r. ⌜ r ≡ examinedOf bytes header ⌝ }
+pub fn check_rules(bytes: usize, header: Header) -> Outcome
+    requires { ⌜ FitsHeader header ⌝ }
+    ensures { λ r. ⌜ r ≡ rulesOutcomeOf bytes header ⌝ }
 {
     if bytes < header.length {
         return Outcome::Refused {

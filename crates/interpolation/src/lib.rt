@@ -3,27 +3,28 @@
 // The discrepancies c a(x) - z b(x) of both pairs are kept for all rows and changed as the pairs are, so that no polynomial is evaluated.
 ghost use Prim.Native.Nat.{ℕ, _+_, _-_, _%_, _≤_, _<_};
 ghost use mathlib.Core.Path.{_≡_};
-ghost use lib.ListN.{length};
+ghost use lib.ListN.{getD, length};
 ghost use Rattle.field.specs.Primes.{modulusOf};
-ghost use Rattle.poly.specs.Coefficients.{at, Stored};
+ghost use Rattle.poly.specs.Coefficients.{Stored};
 ghost use Rattle.poly.specs.Vectors.{onePoly, zeroPoly};
 ghost use Rattle.pairs.specs.Pairs.{PairBounded, Conditions, pairsAfter, solutionOf};
 ghost use Rattle.evaluation.specs.Values.{formsOf};
-ghost use Rattle.pair_step.specs.Held.{PairHeld, pairOf, pairsOf};
-ghost use Rattle.interpolation.specs.Start.{sidesAtStart, stepRow};
+ghost use Rattle.pairs.specs.Held.{PairHeld, pairOf, pairsOf};
+ghost use Rattle.interpolation.specs.Start.{statesAtStart, stepRow};
 use evaluation::PerRow;
 use field::Prime;
 use montgomery::Factor;
-use pair_step::Row;
-use pair_step::Side;
-use pair_step::Sides;
 use pairs::Pair;
+use pairs::PairState;
+use pairs::PairStates;
+use pairs::RowStep;
+use pairs::step;
 use poly::Poly;
 
 // The weights: the discrepancies of the pair (1, 0).
 fn copied(weights: &[u16; 32]) -> PerRow
-    requires { ⌜ ((k : ℕ) → at (now weights) k < 2) ⌝ }
-    ensures { λ r. ⌜ ((k : ℕ) → k < 32 → at (r .v) k ≡ at (now (weights .entry)) k) × Stored 2 (r .v) ⌝ }
+    requires { ⌜ ((k : ℕ) → getD (now weights) k 0 < 2) ⌝ }
+    ensures { λ r. ⌜ ((k : ℕ) → k < 32 → getD (r .v) k 0 ≡ getD (now (weights .entry)) k 0) × Stored 2 (r .v) ⌝ }
 {
     let mut r = PerRow { v: [0u16; 32] };
     for k in 0..32 {
@@ -35,28 +36,28 @@ fn copied(weights: &[u16; 32]) -> PerRow
 
 // - z at each row: the discrepancies of the pair (0, 1).
 fn negations(p: u16, z: &[u32; 32], rows: usize) -> PerRow
-    requires { ⌜ (rows ≤ 32) × ((k : ℕ) → at (now z) k < p) ⌝ }
-    ensures { λ r. ⌜ ((k : ℕ) → k < rows → at (r .v) k ≡ (0 + (p - at (now (z .entry)) k)) % p) × Stored p (r .v) ⌝ }
+    requires { ⌜ (rows ≤ 32) × ((k : ℕ) → getD (now z) k 0 < p) ⌝ }
+    ensures { λ r. ⌜ ((k : ℕ) → k < rows → getD (r .v) k 0 ≡ (0 + (p - getD (now (z .entry)) k 0)) % p) × Stored p (r .v) ⌝ }
 {
     let mut r = PerRow { v: [0u16; 32] };
     for k in 0..rows {
-        r.v[k] = reduction::difference(p, 0, z[k] as u16);
+        r.v[k] = montgomery::difference(p, 0, z[k] as u16);
     }
     r
 }
 
 // Two pairs of constants with the numbers `first` and `second`, before the first row.
-fn started(first: usize, second: usize) -> Sides
-    ensures { λ r. ⌜ r ≡ sidesAtStart first second ⌝ }
+fn started(first: usize, second: usize) -> PairStates
+    ensures { λ r. ⌜ r ≡ statesAtStart first second ⌝ }
 {
-    Sides {
-        first: Side {
+    PairStates {
+        first: PairState {
             e: first,
             n: 1,
             coefficients: 0,
             discrepancies: 0,
         },
-        second: Side {
+        second: PairState {
             e: second,
             n: 1,
             coefficients: 0,
@@ -65,14 +66,14 @@ fn started(first: usize, second: usize) -> Sides
     }
 }
 
-// Row k, where v is the reciprocal of the prime modulo 2^16.
-fn row(q: Prime, v: u16, points: &[u32; 32], xs: &[u16; 32], rows: usize, k: usize) -> Row
+// RowStep k, where v is the reciprocal of the prime modulo 2^16.
+fn row(q: Prime, v: u16, points: &[u32; 32], xs: &[u16; 32], rows: usize, k: usize) -> RowStep
     requires { ⌜ k < 32 ⌝ }
     ensures { λ r. ⌜ r ≡ stepRow q v (now (points .entry)) (now (xs .entry)) rows k ⌝ }
 {
     let form = xs[k];
     let low = montgomery::low(form, v);
-    Row {
+    RowStep {
         prime: q,
         index: k,
         rows: rows,
@@ -92,12 +93,12 @@ fn after_rows(
     weights: &[u16; 32],
     z: &[u32; 32],
     rows: usize,
-    start: Sides,
+    start: PairStates,
     a0: &mut [u16; 32],
     b0: &mut [u16; 32],
     a1: &mut [u16; 32],
     b1: &mut [u16; 32],
-) -> Sides
+) -> PairStates
     requires { ⌜ Conditions (modulusOf q) (now points) (now weights) (now z) rows (start .second .e) (start .first .e) × (now xs ≡ formsOf (modulusOf q) (now points) rows)
         × (start .first .n ≡ 1) × (start .second .n ≡ 1)
         × (now a0 ≡ onePoly .c) × (now b0 ≡ zeroPoly .c) × (now a1 ≡ zeroPoly .c) × (now b1 ≡ onePoly .c) ⌝ }
@@ -117,13 +118,13 @@ fn after_rows(
     let mut s = start;
     for k in 0..rows {
         let here = row(q, v, points, xs, rows, k);
-        s = pair_step::step(&ps, &vs, here, xs, s, a0, b0, &mut d0, a1, b1, &mut d1);
+        s = step(&ps, &vs, here, xs, s, a0, b0, &mut d0, a1, b1, &mut d1);
     }
     s
 }
 
 fn widened(a: &[u16; 32]) -> Poly
-    requires { ⌜ (length (now a) ≡ 32) × ((k : ℕ) → at (now a) k < 65536) ⌝ }
+    requires { ⌜ (length (now a) ≡ 32) × ((k : ℕ) → getD (now a) k 0 < 65536) ⌝ }
     ensures { λ r. ⌜ r .c ≡ now (a .entry) ⌝ }
 {
     let mut r = poly::zero();
@@ -134,7 +135,7 @@ fn widened(a: &[u16; 32]) -> Poly
 }
 
 fn paired(a: &[u16; 32], b: &[u16; 32], e: usize) -> Pair
-    requires { ⌜ (length (now a) ≡ 32) × ((k : ℕ) → at (now a) k < 65536) × (length (now b) ≡ 32) × ((k : ℕ) → at (now b) k < 65536) ⌝ }
+    requires { ⌜ (length (now a) ≡ 32) × ((k : ℕ) → getD (now a) k 0 < 65536) × (length (now b) ≡ 32) × ((k : ℕ) → getD (now b) k 0 < 65536) ⌝ }
     ensures { λ r. ⌜ r ≡ pairOf (now (a .entry)) (now (b .entry)) e ⌝ }
 {
     Pair {

@@ -10,20 +10,20 @@ use borrow.Author.Tests.{lt-leb}
 use Rattle.field.specs.Primes.{modulusOf}
 use Rattle.field.proofs.Moduli.{modulus-prime}
 use Rattle.format.specs.declared.Bounds.{Bounds}
-use Rattle.row_search.specs.declared.Found.{Found}
+use Rattle.lists.specs.declared.Found.{Found}
 use Rattle.header.specs.Header.{boundsOf}
 use Rattle.rows.specs.Rows.{jobPoint, jobValue}
 use Rattle.marked_rows.specs.declared.Mark.{Mark}
 use Rattle.marked_rows.specs.declared.Mark.the-variants.{None, Pole, Silent}
 use Rattle.marked_rows.specs.Marks.{markAt, isUnmarked}
-use Rattle.marked_rows.specs.Table.{sideOf, jobPoints, jobValues}
+use Rattle.marked_rows.specs.Table.{rightSideOf, jobPoints, jobValues}
 use Rattle.job.specs.Refusals.{outOfRange, repeatedPoint}
-use Rattle.row_search.specs.Search.{firstBelow, anyBelow, isFound}
-use Rattle.row_search.proofs.FirstBelow.{first-cong, none-below}
+use Rattle.lists.specs.Search.{firstBelow, anyBelow, isFound}
+use Rattle.lists.proofs.FirstBelow.{first-cong, none-below}
 use Rattle.marked_rows.proofs.Entries.{points-at, values-at}
 
 -- what stands for the values of a marked row is below p
-pub values-in-table : (m : Mark) (p n : ℕ) (y : ℕ → ℕ) → 2 ≤ p → anyBelow n (λ i. leb p (sideOf m (y i))) ≡ (isUnmarked m && anyBelow n (λ i. leb p (y i)))
+pub values-in-table : (m : Mark) (p n : ℕ) (y : ℕ → ℕ) → 2 ≤ p → anyBelow n (λ i. leb p (rightSideOf m (y i))) ≡ (isUnmarked m && anyBelow n (λ i. leb p (y i)))
 values-in-table None p n y two = refl
 values-in-table Pole p n y two = ap isFound (none-below _ n (λ i l. lt-leb p 1 (omega arith)))
 values-in-table Silent p n y two = ap isFound (none-below _ n (λ i l. lt-leb p 0 (omega arith)))

@@ -9,23 +9,12 @@ use Rattle.format.specs.declared.Reason.{Reason}
 use Rattle.format.specs.declared.Reason.the-variants.{TooShort, TooFewRows, OutOfRange, TooFewSpeaking, RepeatedPoint, AreaTooShort}
 use Rattle.format.specs.declared.Outcome.{Outcome}
 use Rattle.format.specs.declared.Outcome.the-variants.{Accepted, Refused}
-use Rattle.row_search.specs.declared.Found.{Found}
-use Rattle.row_search.specs.declared.Found.the-variants.{At, Nothing}
+use Rattle.lists.specs.declared.Found.{Found}
+use Rattle.lists.specs.declared.Found.the-variants.{At, Nothing}
 use Rattle.header.specs.Header.{boundsOf}
-use Rattle.row_search.specs.Search.{firstBelow, ifHolds}
+use Rattle.lists.specs.Search.{firstBelow, ifHolds}
 use Rattle.header_rules.specs.Rules.{tooShort, addedHeaderBroken}
-use Rattle.job.specs.Refusals.{
-  byteCountDiffers,
-  tooFewRows,
-  outOfRange,
-  tooFewSpeaking,
-  repeatedPoint,
-  areaTooShort,
-  refuse,
-  rowTests,
-  outcomeOfRows,
-  outcomeOf,
-}
+use Rattle.job.specs.Refusals.{byteCountDiffers, tooFewRows, outOfRange, tooFewSpeaking, repeatedPoint, areaTooShort, refuse, rowTests, outcomeOfRows, outcomeOf}
 
 -- three tests, by what they found
 abbrev threeTests : (a b c : Found) → Outcome → Outcome

@@ -10,9 +10,9 @@ use Rattle.lists.specs.Tabulated.{tabulate}
 use Rattle.format.specs.Bounds.{largestBound, numeratorCount}
 use Rattle.cursor.specs.Bits.{fieldOf}
 use Rattle.header.specs.Header.{outputsOf, dfOf, spareBitOf, numeratorBoundsOf, flagsOf, boundsOf}
-use Rattle.row_search.specs.Search.{firstBelow}
+use Rattle.lists.specs.Search.{firstBelow}
 use Rattle.rows.specs.Rows.{numberAt}
-use Rattle.word.specs.Word.{countBelow}
+use Rattle.lists.specs.Counting.{countBelow}
 use Rattle.marked_rows.specs.Marks.{markOf, speakingCount}
 use Rattle.job.specs.Refusals.{outcomeOfRows, outcomeOf}
 

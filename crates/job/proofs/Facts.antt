@@ -16,30 +16,19 @@ use Rattle.format.specs.declared.Reason.{Reason}
 use Rattle.format.specs.declared.Reason.the-variants.{TooShort, AddedHeader, ByteCount, TooFewRows, OutOfRange, TooFewSpeaking, RepeatedPoint, AreaTooShort}
 use Rattle.format.specs.declared.Outcome.{Outcome}
 use Rattle.format.specs.declared.Outcome.the-variants.{Accepted, Refused}
-use Rattle.header.specs.Header.{boundsOf, headerOf, jobLengthOf, rowsNeededOf, Narrow}
-use Rattle.header.proofs.Fields.{narrow}
+use Rattle.header.specs.Header.{boundsOf, headerOf, jobLengthOf, rowsNeededOf, FitsFields}
+use Rattle.header.proofs.Fields.{fits-fields}
 use Rattle.header_rules.specs.Rules.{tooShort, addedHeaderBroken}
 use Rattle.header_rules.proofs.Rules.{bound-within-df}
-use Rattle.row_search.specs.declared.Found.{Found}
-use Rattle.row_search.specs.declared.Found.the-variants.{At, Nothing}
-use Rattle.row_search.specs.Search.{firstBelow, ifHolds, isFound}
+use Rattle.lists.specs.declared.Found.{Found}
+use Rattle.lists.specs.declared.Found.the-variants.{At, Nothing}
+use Rattle.lists.specs.Search.{firstBelow, ifHolds, isFound}
 use Rattle.rows.specs.Rows.{jobPoint, jobValue}
 use Rattle.marked_rows.specs.Marks.{markAt, isUnmarked, speakingCount}
 use Rattle.lists.proofs.Order.{lt-or-ge}
-use Rattle.row_search.proofs.FirstBelow.{at-not-nothing, none-passes, any-passes, none-below}
+use Rattle.lists.proofs.FirstBelow.{at-not-nothing, none-passes, any-passes, none-below}
 use Rattle.job.proofs.Deciding.{past-4, past-6, accepted}
-use Rattle.job.specs.Refusals.{
-  byteCountDiffers,
-  tooFewRows,
-  outOfRange,
-  tooFewSpeaking,
-  repeatedPoint,
-  areaTooShort,
-  refuse,
-  outcomeOfRows,
-  outcomeOf,
-  WellFormed,
-}
+use Rattle.job.specs.Refusals.{byteCountDiffers, tooFewRows, outOfRange, tooFewSpeaking, repeatedPoint, areaTooShort, refuse, outcomeOfRows, outcomeOf, WellFormed}
 
 module _ (s : List ℕ) (not-5 : firstBelow (boundsOf s .rows) (outOfRange s) ≡ Nothing) where
   in-range : (r : ℕ) → r < boundsOf s .rows → outOfRange s r ≡ false
@@ -69,7 +58,7 @@ module _ (s : List ℕ) (not-6 : firstBelow (boundsOf s .rows) (repeatedPoint s)
 
 -- What the layers above count on in a well-formed job. It is all that well-formedness says (`facts-well-formed`).
 pub record WellFormedFacts (s : List ℕ) (area : ℕ) : Type 0 where
-  pub fields : Narrow (boundsOf s)
+  pub fields : FitsFields (boundsOf s)
   pub rules : addedHeaderBroken s ≡ false
   pub byte-count : length s ≡ jobLengthOf (headerOf s)
   pub enough-rows : rowsNeededOf (headerOf s) ≤ boundsOf s .rows
@@ -104,7 +93,7 @@ module _ (s : List ℕ) (area : ℕ) where
       let t6 = passed RepeatedPoint (firstBelow (boundsOf s .rows) (repeatedPoint s)) _ (t12 .1) in
       let t7 = passed AreaTooShort (ifHolds (areaTooShort s area) 0) _ (t6 .1) in
       record {
-        fields = narrow s;
+        fields = fits-fields s;
         rules = does-not-hold (addedHeaderBroken s) (t2 .0);
         byte-count = eqb-true _ _ (not-false _ (does-not-hold (byteCountDiffers s) (t3 .0)));
         enough-rows = ltb-false _ _ (does-not-hold (tooFewRows s) (t4 .0));

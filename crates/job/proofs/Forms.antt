@@ -12,24 +12,14 @@ use Rattle.format.specs.declared.Reason.{Reason}
 use Rattle.format.specs.declared.Reason.the-variants.{TooShort, AddedHeader, ByteCount, TooFewRows, OutOfRange, TooFewSpeaking, RepeatedPoint, AreaTooShort}
 use Rattle.format.specs.declared.Outcome.{Outcome}
 use Rattle.format.specs.declared.Outcome.the-variants.{Accepted, Refused}
-use Rattle.format.specs.Outcomes.{numberOf, reportOf}
-use Rattle.row_search.specs.declared.Found.{Found}
-use Rattle.row_search.specs.declared.Found.the-variants.{At, Nothing}
-use Rattle.row_search.specs.Search.{ifHolds, firstBelow}
+use Rattle.format.specs.Outcomes.{refusalNumber, reportOf}
+use Rattle.lists.specs.declared.Found.{Found}
+use Rattle.lists.specs.declared.Found.the-variants.{At, Nothing}
+use Rattle.lists.specs.Search.{ifHolds, firstBelow}
 use Rattle.header.specs.Header.{boundsOf}
 use Rattle.header_rules.specs.Rules.{tooShort, addedHeaderBroken}
 use Rattle.job.specs.Form.{firstTests, formOutcomeOf}
-use Rattle.job.specs.Refusals.{
-  byteCountDiffers,
-  tooFewRows,
-  outOfRange,
-  tooFewSpeaking,
-  repeatedPoint,
-  areaTooShort,
-  refuse,
-  outcomeOfRows,
-  outcomeOf,
-}
+use Rattle.job.specs.Refusals.{byteCountDiffers, tooFewRows, outOfRange, tooFewSpeaking, repeatedPoint, areaTooShort, refuse, outcomeOfRows, outcomeOf}
 use Rattle.job.proofs.Laws.{answer-length-most}
 
 -- tests either refuse, whatever the later ones say and for one of the given reasons, or answer as the later ones do
@@ -48,7 +38,7 @@ Given m n = (0 < n) × (n ≡ 2 → ⊥) × (m ≤ n → (11 ≤ n) × (n ≤ 12
 
 -- the reasons of tests 1, 11, 3, 4, 5, 12 and 6
 abbrev pub OfForm : Reason → Type 0
-OfForm reason = Given 7 (numberOf reason)
+OfForm reason = Given 7 (refusalNumber reason)
 
 module _ (s : List ℕ) where
   -- test 7 alone

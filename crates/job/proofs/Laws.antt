@@ -15,15 +15,15 @@ use Rattle.format.specs.declared.Reason.the-variants.{TooFewRows, OutOfRange, T
 use Rattle.format.specs.declared.Outcome.{Outcome}
 use Rattle.format.specs.declared.Outcome.the-variants.{Accepted, Recovered, Refused}
 use Rattle.header.specs.Header.{dfOf, boundsOf, spareBitOf, headerLengthOf, headerOf, jobLengthOf, rowsNeededOf}
-use Rattle.header.proofs.Fields.{narrow, narrow-header, rows-bytes}
+use Rattle.header.proofs.Fields.{fits-fields, fits-header, rows-bytes}
 use Rattle.header_rules.specs.Rules.{tooShort, addedHeaderBroken}
 use Rattle.header_rules.proofs.Rules.{short-unbroken, bound-within-df}
-use Rattle.row_search.specs.declared.Found.{Found}
-use Rattle.row_search.specs.declared.Found.the-variants.{At, Nothing}
-use Rattle.row_search.specs.Search.{firstBelow}
+use Rattle.lists.specs.declared.Found.{Found}
+use Rattle.lists.specs.declared.Found.the-variants.{At, Nothing}
+use Rattle.lists.specs.Search.{firstBelow}
 use Rattle.rows.specs.Rows.{jobPoint}
 use Rattle.job.specs.Refusals.{byteCountDiffers, tooFewRows, outOfRange, tooFewSpeaking, repeatedPoint, outcomeOfRows, outcomeOf, WellFormed}
-use Rattle.job.specs.Reading.{readingWith, readingOf}
+use Rattle.job.specs.ParsedJob.{parsedWith, parsedJobOf}
 use Rattle.job.proofs.Deciding.{at-4, at-5, at-12, at-6, past-4}
 use Rattle.job.proofs.Facts.{well-formed-facts, points-below, points-distinct}
 use Rattle.job.proofs.Pigeonhole.{pigeonhole}
@@ -31,14 +31,14 @@ use Rattle.job.proofs.Pigeonhole.{pigeonhole}
 module _ (s : List ℕ) (area : ℕ) where
   -- 4 more than paper 01's "313 at most", with the longer header
   pub job-length-most : WellFormed s area → length s ≤ 317
-  job-length-most h = omega (arith, well-formed-facts s area h .byte-count, rows-bytes (boundsOf s) (narrow s), narrow-header s .length-most)
+  job-length-most h = omega (arith, well-formed-facts s area h .byte-count, rows-bytes (boundsOf s) (fits-fields s), fits-header s .length-most)
 
   -- "254 at most"
   pub answer-length-most : WellFormed s area → answerLengthOf (boundsOf s) ≤ 254
   answer-length-most h =
       let f = well-formed-facts s area h in
-      let n = mul-le-mul-right {n = 4} (dfOf s + 1) (narrow s .outputs-most) in
-      omega (arith, f .enough-rows, narrow s .rows-most, counts-most (boundsOf s) (dfOf s) (boundsOf s .outputs) (bound-within-df s (f .rules)))
+      let n = mul-le-mul-right {n = 4} (dfOf s + 1) (fits-fields s .outputs-most) in
+      omega (arith, f .enough-rows, fits-fields s .rows-most, counts-most (boundsOf s) (dfOf s) (boundsOf s .outputs) (bound-within-df s (f .rules)))
 
   -- "A job of three bytes with L = 0 and spare bit 0 meets 4."
   pub no-rows : length s ≡ 3 → boundsOf s .rows ≡ 0 → spareBitOf s ≡ 0 → outcomeOf s area ≡ Refused TooFewRows 0
@@ -74,15 +74,15 @@ module _ (s : List ℕ) (area : ℕ) where
       five (At r) e = inl (r, past ∙ at-5 s _ e)
       five Nothing e = twelve e (tooFewSpeaking s) refl
 
-outcome-kept : (o : Outcome) (s : List ℕ) → readingWith o s .outcome ≡ o
+outcome-kept : (o : Outcome) (s : List ℕ) → parsedWith o s .outcome ≡ o
 outcome-kept Accepted s = refl
 outcome-kept (Recovered bytes wrong) s = refl
 outcome-kept (Refused reason row) s = refl
 
--- the reading's outcome is the outcome
-pub reading-outcome : (s : List ℕ) (area : ℕ) → readingOf s area .outcome ≡ outcomeOf s area
-reading-outcome s area = outcome-kept (outcomeOf s area) s
+-- the parsed job's outcome is the outcome
+pub parsed-outcome : (s : List ℕ) (area : ℕ) → parsedJobOf s area .outcome ≡ outcomeOf s area
+parsed-outcome s area = outcome-kept (outcomeOf s area) s
 
 -- a well-formed job is read whole
-pub reading-accepted : (s : List ℕ) (area : ℕ) → WellFormed s area → readingOf s area ≡ readingWith Accepted s
-reading-accepted s area h = ap (λ (o : Outcome). readingWith o s) h
+pub parsed-accepted : (s : List ℕ) (area : ℕ) → WellFormed s area → parsedJobOf s area ≡ parsedWith Accepted s
+parsed-accepted s area h = ap (λ (o : Outcome). parsedWith o s) h

@@ -11,7 +11,7 @@ use Rattle.format.specs.declared.Reason.the-variants.{AreaTooShort}
 use Rattle.format.specs.declared.Outcome.{Outcome}
 use Rattle.format.specs.declared.Outcome.the-variants.{Accepted}
 use Rattle.format.specs.Outcomes.{reportOf}
-use Rattle.row_search.specs.Search.{ifHolds}
+use Rattle.lists.specs.Search.{ifHolds}
 use Rattle.header.specs.Header.{boundsOf}
 use Rattle.job.specs.Refusals.{areaTooShort, refuse, outcomeOf}
 use Rattle.job.proofs.Forms.{Given, ByForm, by-form, long-enough}

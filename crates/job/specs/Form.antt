@@ -6,10 +6,10 @@ use lib.Dec.{ltb, eqb}
 use Rattle.format.specs.declared.Reason.the-variants.{TooShort, AddedHeader, ByteCount, TooFewRows}
 use Rattle.format.specs.declared.Outcome.{Outcome}
 use Rattle.format.specs.declared.Outcome.the-variants.{Accepted, Refused}
-use Rattle.row_search.specs.Search.{ifHolds}
+use Rattle.lists.specs.Search.{ifHolds}
 use Rattle.header.specs.declared.Header.{Header}
 use Rattle.header.specs.Header.{jobLengthOf, rowsNeededOf}
-use Rattle.header_rules.specs.Rules.{tooShort, addedHeaderBroken, examinedThen}
+use Rattle.header_rules.specs.Rules.{tooShort, addedHeaderBroken, rulesThen}
 use Rattle.job.specs.Refusals.{byteCountDiffers, tooFewRows, refuse, rowTests}
 
 -- tests 1, 11, 3, 4, 5, 12 and 6 in this order, and where none applies what the later ones say
@@ -26,5 +26,5 @@ formOutcomeOf s = firstTests s Accepted
 -- the first of tests 1, 11, 3 and 4 that applies to so many bytes that begin with a header
 abbrev pub headerOutcomeOf : (bytes : ℕ) → Header → Outcome
 headerOutcomeOf bytes h =
-    examinedThen bytes h
+    rulesThen bytes h
     (cond (not (eqb bytes (jobLengthOf h))) (Refused ByteCount 0) (cond (ltb (h .bounds .rows) (rowsNeededOf h)) (Refused TooFewRows 0) Accepted))

@@ -1,3 +1,3 @@
 pub mod Refusals
 pub mod Form
-pub mod Reading
+pub mod ParsedJob

@@ -12,9 +12,9 @@ use Rattle.format.specs.declared.Reason.{Reason}
 use Rattle.format.specs.declared.Reason.the-variants.{TooShort, AddedHeader, ByteCount, TooFewRows, OutOfRange, TooFewSpeaking, RepeatedPoint, AreaTooShort}
 use Rattle.format.specs.declared.Outcome.{Outcome}
 use Rattle.format.specs.declared.Outcome.the-variants.{Accepted, Refused}
-use Rattle.row_search.specs.declared.Found.{Found}
-use Rattle.row_search.specs.declared.Found.the-variants.{At, Nothing}
-use Rattle.row_search.specs.Search.{ifHolds, firstBelow, anyBelow}
+use Rattle.lists.specs.declared.Found.{Found}
+use Rattle.lists.specs.declared.Found.the-variants.{At, Nothing}
+use Rattle.lists.specs.Search.{ifHolds, firstBelow, anyBelow}
 use Rattle.header.specs.Header.{boundsOf, headerOf, jobLengthOf, rowsNeededOf}
 use Rattle.header_rules.specs.Rules.{tooShort, addedHeaderBroken}
 use Rattle.rows.specs.Rows.{jobPoint, jobValue}

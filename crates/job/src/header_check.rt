@@ -1,6 +1,6 @@
 // Tests 1, 11, 3 and 4: what a job's header and length decide.
 ghost use mathlib.Core.Path.{_≡_};
-ghost use Rattle.header.specs.Header.{NarrowHeader};
+ghost use Rattle.header.specs.Header.{FitsHeader};
 ghost use Rattle.job.specs.Form.{headerOutcomeOf};
 use format::Outcome;
 use format::Reason;
@@ -10,12 +10,12 @@ use header::rows_needed;
 
 // The first that applies to so many bytes that begin with this header, in their order.
 pub fn check_header(bytes: usize, header: Header) -> Outcome
-    requires { ⌜ NarrowHeader header ⌝ }
+    requires { ⌜ FitsHeader header ⌝ }
     ensures { λ r. ⌜ r ≡ headerOutcomeOf bytes header ⌝ }
 {
-    let examined = header_rules::examine(bytes, header);
-    let Outcome::Accepted = examined else {
-        return examined;
+    let checked = header_rules::check_rules(bytes, header);
+    let Outcome::Accepted = checked else {
+        return checked;
     };
     if bytes != job_length(header) {
         return Outcome::Refused {

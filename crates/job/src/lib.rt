@@ -1,7 +1,7 @@
-// Reading a job: the refusals 1, 11, 3, 4, 5, 12, 6 and 7 in this order, and the header's fields and rows of a job that meets none.
+// ParsedJob a job: the refusals 1, 11, 3, 4, 5, 12, 6 and 7 in this order, and the header's fields and rows of a job that meets none.
 pub mod header_check;
-pub mod reading;
+pub mod parsed_job;
 
 pub use header_check::check_header;
-pub use reading::Reading;
-pub use reading::read;
+pub use parsed_job::ParsedJob;
+pub use parsed_job::read;

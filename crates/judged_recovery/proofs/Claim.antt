@@ -15,7 +15,7 @@ use Rattle.job.proofs.Forms.{form-refused, form-accepted}
 use Rattle.answer.proofs.Lengths.{length-answer}
 use Rattle.problem.specs.Answers.{wordFor, recoveredBytes}
 use Rattle.problem.proofs.Same.{recovered-same}
-use Rattle.problem_meaning.proofs.OnlyOne.{at-most-one}
+use Rattle.soundness.proofs.OnlyOne.{at-most-one}
 use Rattle.recovery.proofs.Settling.{answered-if-zero}
 use Rattle.recovery.specs.Recovery.{RefusedEarly, Answered, RefusedUnsolvable, Settled}
 use Rattle.offered_answer.specs.declared.JudgementReport.{JudgementReport}

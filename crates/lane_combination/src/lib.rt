@@ -3,8 +3,8 @@ ghost use Prim.Native.Nat.{_-_, _*_, _/_, _≤_, _<_};
 ghost use mathlib.Core.Path.{_≡_};
 ghost use Rattle.lanes.specs.Lanes.{groupsOf, modulusAt, Moduli, Residues, replaced, combinedLane};
 use montgomery::Factor;
-use reduction::difference;
-use reduction::product;
+use montgomery::difference;
+use montgomery::product;
 
 // d a - c b, in place of a
 pub fn combine(

@@ -2,9 +2,9 @@
 ghost use Prim.Native.Nat.{_-_, _*_, _/_, _≤_, _<_};
 ghost use mathlib.Core.Path.{_≡_};
 ghost use Rattle.lanes.specs.Lanes.{groupsOf, modulusAt, Moduli, Residues, replaced, differenceLane};
+use montgomery::difference;
 use montgomery::low;
-use reduction::difference;
-use reduction::product;
+use montgomery::product;
 
 // (x_l - x) a_l, in place of a; xs holds the forms of the x_l.
 pub fn times_differences(

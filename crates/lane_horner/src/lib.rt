@@ -2,9 +2,9 @@
 ghost use Prim.Native.Nat.{_≤_, _<_};
 ghost use mathlib.Core.Path.{_≡_};
 ghost use Rattle.lanes.specs.Lanes.{groupsOf, modulusAt, Moduli, Residues, replaced, hornerLane};
+use montgomery::difference;
 use montgomery::low;
-use reduction::difference;
-use reduction::product;
+use montgomery::product;
 
 // x_l a_l + c, in place of a; xs holds the forms of the x_l.
 pub fn horner(

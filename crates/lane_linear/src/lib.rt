@@ -3,8 +3,8 @@ ghost use Prim.Native.Nat.{_≤_, _<_};
 ghost use mathlib.Core.Path.{_≡_};
 ghost use Rattle.lanes.specs.Lanes.{groupsOf, modulusAt, Moduli, Residues, replaced, linearLane};
 use montgomery::Factor;
-use reduction::difference;
-use reduction::product;
+use montgomery::difference;
+use montgomery::product;
 
 // (u - x) a, in place of a
 pub fn times_linear(ps: &[u16; 32], n: usize, x: Factor, a: &mut [u16; 32]) -> usize

@@ -1,5 +1,10 @@
+pub mod Splices
+pub mod Copies
 pub mod Truth
 pub mod Order
 pub mod Tabulated
 pub mod Filling
 pub mod Maps
+pub mod FirstBelow
+pub mod Distinct
+pub mod Counting

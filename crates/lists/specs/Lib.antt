@@ -1,1 +1,4 @@
 pub mod Tabulated
+pub mod Search
+pub mod Counting
+pub mod Overwriting

@@ -1,4 +1,8 @@
 // Paper 02, item 7: the margin. Of a job with so many wrong rows, by how many the rows that speak pass df + dg + 2 W.
+pub mod recovered;
+
+pub use recovered::Measured;
+pub use recovered::recover_with_margin;
 ghost use Prim.Native.Nat.{_+_, _*_, _≤_};
 ghost use mathlib.Core.Path.{_≡_};
 ghost use Rattle.margin.specs.Margin.{excessOf, marginOf};
@@ -24,12 +28,12 @@ fn excess(speaking: usize, df: usize, dg: usize, wrong: u32) -> u32
 pub fn margin(job: &[u8], wrong: u32) -> u32
     ensures { λ r. ⌜ r ≡ marginOf (now (job .entry)) wrong ⌝ }
 {
-    let reading = job::read(job, LONGEST);
-    let verdict = reading.outcome;
-    let Outcome::Accepted = verdict else {
+    let parsed = job::read(job, LONGEST);
+    let outcome = parsed.outcome;
+    let Outcome::Accepted = outcome else {
         return 0;
     };
-    let bounds = reading.bounds;
+    let bounds = parsed.bounds;
     let header = read_header(job);
-    excess(reading.speaking, header.df, bounds.dg, wrong)
+    excess(parsed.speaking, header.df, bounds.dg, wrong)
 }

@@ -6,8 +6,8 @@ use native.Mathlib.Omega.{arith}
 use borrow.Author.Tests.{eqb-true, not-true, not-false}
 use lib.Dec.{eqb}
 use Rattle.lists.proofs.Truth.{never-true}
-use Rattle.row_search.specs.Search.{isFound}
-use Rattle.row_search.proofs.FirstBelow.{any-passes, first-cong}
+use Rattle.lists.specs.Search.{isFound}
+use Rattle.lists.proofs.FirstBelow.{any-passes, first-cong}
 use Rattle.marked_rows.specs.declared.Mark.{Mark}
 use Rattle.marked_rows.specs.declared.Mark.the-variants.{None, Pole, Silent}
 use Rattle.marked_rows.specs.Marks.{allAre, markOf, isUnmarked, speaking}

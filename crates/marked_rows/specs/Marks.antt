@@ -4,8 +4,8 @@ use Prim.Native.Nat.{ℕ}
 use mathlib.Core.Bool.{Bool, true, false, not, cond, _&&_}
 use mathlib.Core.List.{List}
 use lib.Dec.{eqb}
-use Rattle.word.specs.Word.{countBelow}
-use Rattle.row_search.specs.Search.{anyBelow}
+use Rattle.lists.specs.Counting.{countBelow}
+use Rattle.lists.specs.Search.{anyBelow}
 use Rattle.header.specs.Header.{flagsOf, marksAllowed, boundsOf}
 use Rattle.rows.specs.Rows.{jobValue}
 use Rattle.marked_rows.specs.declared.Mark.{Mark}

@@ -11,7 +11,7 @@ use Rattle.rows.specs.declared.Row.{Row}
 use Rattle.rows.specs.Rows.{jobPoint, jobValue, valueOrZero}
 use Rattle.marked_rows.specs.declared.Mark.{Mark}
 use Rattle.marked_rows.specs.declared.Mark.the-variants.{None, Pole, Silent}
-use Rattle.marked_rows.specs.declared.SettledRow.{SettledRow}
+use Rattle.marked_rows.specs.declared.RowConditions.{RowConditions}
 use Rattle.marked_rows.specs.Marks.{markAt}
 
 -- c
@@ -21,16 +21,16 @@ weightOf Pole = 0
 weightOf Silent = 0
 
 -- yi, where the row has the number y
-abbrev pub sideOf : Mark → (y : ℕ) → ℕ
-sideOf None y = y
-sideOf Pole y = 1
-sideOf Silent y = 0
+abbrev pub rightSideOf : Mark → (y : ℕ) → ℕ
+rightSideOf None y = y
+rightSideOf Pole y = 1
+rightSideOf Silent y = 0
 
 -- one row
-abbrev pub settledBy : Mark → Row → SettledRow
-settledBy None row = record { point = row .point; weight = 1; values = row .values; speaking = 1 }
-settledBy Pole row = record { point = row .point; weight = 0; values = replicate 4 1; speaking = 1 }
-settledBy Silent row = record { point = row .point; weight = 0; values = replicate 4 0; speaking = 0 }
+abbrev pub conditionsBy : Mark → Row → RowConditions
+conditionsBy None row = record { point = row .point; weight = 1; values = row .values; speaking = 1 }
+conditionsBy Pole row = record { point = row .point; weight = 0; values = replicate 4 1; speaking = 1 }
+conditionsBy Silent row = record { point = row .point; weight = 0; values = replicate 4 0; speaking = 0 }
 
 -- the points of all rows; here and below places that are no rows hold 0
 unfoldable pub jobPoints : List ℕ → List ℕ
@@ -42,4 +42,4 @@ jobWeights s = tabulate 32 (λ r. cond (ltb r (boundsOf s .rows)) (weightOf (mar
 
 -- their values, that of output i in row r at 4 r + i
 unfoldable pub jobValues : List ℕ → List ℕ
-jobValues s = tabulate 128 (λ k. cond (ltb (k / 4) (boundsOf s .rows)) (sideOf (markAt s (k / 4)) (valueOrZero s (k / 4) (k % 4))) 0)
+jobValues s = tabulate 128 (λ k. cond (ltb (k / 4) (boundsOf s .rows)) (rightSideOf (markAt s (k / 4)) (valueOrZero s (k / 4) (k % 4))) 0)

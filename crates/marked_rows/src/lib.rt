@@ -4,7 +4,7 @@ ghost use mathlib.Core.Path.{_≡_};
 ghost use lib.ListN.{length, getD};
 ghost use Rattle.header.specs.Header.{headerLengthOf, flagsOf, marksAllowed, boundsOf};
 ghost use Rattle.marked_rows.specs.Marks.{allAre, markOf, speakingCount};
-ghost use Rattle.marked_rows.specs.Table.{settledBy, jobPoints, jobWeights, jobValues};
+ghost use Rattle.marked_rows.specs.Table.{conditionsBy, jobPoints, jobWeights, jobValues};
 use rows::Row;
 use rows::row_at;
 
@@ -17,7 +17,7 @@ pub enum Mark {
 
 // A row by its conditions, c fi(x) = g(x) yi for each output: its weight is c, its values are the yi. And how many rows it adds to those that
 // speak.
-pub struct SettledRow {
+pub struct RowConditions {
     pub point: u32,
     pub weight: u16,
     pub values: [u32; 4],
@@ -63,26 +63,26 @@ fn mark_of(row: Row, outputs: usize, marks: bool) -> Mark
 }
 
 // The row by its conditions: 0 fi(x) = g(x) for a pole, 0 = 0 for a silent row.
-pub fn settled(row: Row, outputs: usize, marks: bool) -> SettledRow
+pub fn row_conditions(row: Row, outputs: usize, marks: bool) -> RowConditions
     requires { ⌜ outputs ≤ 4 ⌝ }
-    ensures { λ r. ⌜ r ≡ settledBy (markOf marks outputs (λ i. getD (row .values) i 0)) row ⌝ }
+    ensures { λ r. ⌜ r ≡ conditionsBy (markOf marks outputs (λ i. getD (row .values) i 0)) row ⌝ }
 {
     let point = row.point;
     let values = row.values;
     match mark_of(row, outputs, marks) {
-        Mark::None => SettledRow {
+        Mark::None => RowConditions {
             point: point,
             weight: 1,
             values: values,
             speaking: 1,
         },
-        Mark::Pole => SettledRow {
+        Mark::Pole => RowConditions {
             point: point,
             weight: 0,
             values: [1u32; 4],
             speaking: 1,
         },
-        Mark::Silent => SettledRow {
+        Mark::Silent => RowConditions {
             point: point,
             weight: 0,
             values: [0u32; 4],
@@ -104,7 +104,7 @@ pub fn read_table(job: &[u8], start: usize, rows: usize, outputs: usize, marks: 
     let mut speaking = 0;
     for r in 0..rows {
         let read = row_at(job, start, r, rows, outputs);
-        let row = settled(read, outputs, marks);
+        let row = row_conditions(read, outputs, marks);
         let v = row.values;
         let at = r * 4;
         points[r] = row.point;

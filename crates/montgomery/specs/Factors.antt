@@ -13,9 +13,9 @@ inverseOf P257 = 65281
 inverseOf P65521 = 4369
 
 -- Montgomery's form of e
-abbrev pub formOf : (p e : ℕ) → ℕ
-formOf p e = e * 65536 % p
+abbrev pub montgomeryForm : (p e : ℕ) → ℕ
+montgomeryForm p e = e * 65536 % p
 
 -- the number e as a factor
 abbrev pub factorOf : Prime → ℕ → Factor
-factorOf q e = record { form = formOf (modulusOf q) e; low = formOf (modulusOf q) e * inverseOf q % 65536 }
+factorOf q e = record { form = montgomeryForm (modulusOf q) e; low = montgomeryForm (modulusOf q) e * inverseOf q % 65536 }

@@ -1,8 +1,12 @@
 // The constants and factors of Montgomery's reduction (`reduction`) for the four primes.
+pub mod reduction;
+
+pub use reduction::difference;
+pub use reduction::product;
 ghost use Prim.Native.Nat.{_*_, _%_};
 ghost use mathlib.Core.Path.{_≡_};
 ghost use Rattle.field.specs.Primes.{modulusOf};
-ghost use Rattle.montgomery.specs.Factors.{inverseOf, formOf, factorOf};
+ghost use Rattle.montgomery.specs.Factors.{inverseOf, montgomeryForm, factorOf};
 use field::Prime;
 
 // A number e as the factor of products: Montgomery's form of it, 2^16 e modulo the prime, and that divided by the prime modulo 2^16.
@@ -25,7 +29,7 @@ pub fn inverse(q: Prime) -> u16
 
 // Montgomery's form of a number.
 fn form(q: Prime, e: u32) -> u16
-    ensures { λ r. ⌜ r ≡ formOf (modulusOf q) e ⌝ }
+    ensures { λ r. ⌜ r ≡ montgomeryForm (modulusOf q) e ⌝ }
 {
     field::reduce(q, e as u64 * 65536) as u16
 }

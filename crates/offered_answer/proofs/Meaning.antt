@@ -11,19 +11,19 @@ use Rattle.lists.proofs.Order.{lt-or-ge}
 use Rattle.format.specs.declared.Bounds.{Bounds}
 use Rattle.format.specs.Bounds.{primeOf, numeratorBoundOf, answerLengthOf}
 use Rattle.format.specs.Numbers.{numberFrom, wordFrom}
-use Rattle.poly.specs.Coefficients.{at}
 use Rattle.header.specs.Header.{boundsOf}
-use Rattle.header.proofs.Fields.{narrow, storable}
+use Rattle.header.proofs.Fields.{fits-fields, fits-polynomials}
 use Rattle.marked_rows.specs.Table.{jobPoints, jobWeights, jobValues}
-use Rattle.word.specs.Word.{bitAt, wordOf, wrongCountOf}
-use Rattle.word.proofs.Words.{word-same, bit-exactly}
-use Rattle.word.proofs.Marks.{count-of-word}
-use Rattle.answer.specs.Bytes.{fourBytes, answerBytes, numeratorStart, overwritten}
-use Rattle.coefficients.specs.Coefficients.{coefficientLengthOf, anyTooLarge}
-use Rattle.coefficients.proofs.Ranges.{coefficient-at, coefficient-above, not-large, denominator-bounded, numerator-bounded, none-large}
-use Rattle.coefficients.proofs.Written.{Bytes, coefficients-written}
-use Rattle.judge.specs.Rows.{wrongRowAt}
-use Rattle.judge.proofs.JobRows.{same-wrong}
+use Rattle.row_mask.specs.Word.{bitAt, wordOf, wrongCountOf}
+use Rattle.row_mask.proofs.Words.{word-same, bit-exactly}
+use Rattle.row_mask.proofs.SetBits.{count-of-word}
+use Rattle.answer.specs.Bytes.{fourBytes, answerBytes, numeratorStart}
+use Rattle.lists.specs.Overwriting.{overwritten}
+use Rattle.answer.specs.Coefficients.{coefficientLengthOf, anyTooLarge}
+use Rattle.answer.proofs.Ranges.{coefficient-at, coefficient-above, not-large, denominator-bounded, numerator-bounded, none-large}
+use Rattle.answer.proofs.Written.{Bytes, coefficients-written}
+use Rattle.wrong_rows.specs.Rows.{wrongRowAt}
+use Rattle.wrong_rows.proofs.JobRows.{same-wrong}
 use Rattle.problem.specs.Reduced.{Reduced, Same}
 use Rattle.problem.specs.Answers.{wrongAt, wrongCount, Within, Answer, wordFor, recoveredBytes}
 use Rattle.problem.proofs.Same.{wrong-at-same, answer-same}
@@ -68,8 +68,8 @@ module _ (s a : List ℕ) (size : length a ≡ answerLengthOf (boundsOf s)) wher
   -- "degrees": an offered answer of the right length whose coefficients are below p keeps the degree bounds
   pub length-keeps-degrees : anyTooLarge (boundsOf s) (drop 4 a) ≡ false → Within (boundsOf s) f g
   length-keeps-degrees e = record {
-    numerators = numerator-bounded b (storable s) (drop 4 a) size-behind (not-large b (drop 4 a) e);
-    denominator = denominator-bounded b (storable s) (drop 4 a) size-behind (not-large b (drop 4 a) e);
+    numerators = numerator-bounded b (fits-polynomials s) (drop 4 a) size-behind (not-large b (drop 4 a) e);
+    denominator = denominator-bounded b (fits-polynomials s) (drop 4 a) size-behind (not-large b (drop 4 a) e);
   }
 
   -- the word of the rows that are wrong for f and g, and their number
@@ -77,13 +77,13 @@ module _ (s a : List ℕ) (size : length a ≡ answerLengthOf (boundsOf s)) wher
   word-of-rows f g = word-same (b .rows) _ _ (same-wrong s f g)
 
   count-of-rows : (f : ℕ → List ℕ) (g : List ℕ) → wrongCountOf (wordFor s f g) ≡ wrongCount s f g
-  count-of-rows f g = count-of-word (b .rows) (wrongAt s f g) (let n = narrow s .rows-most in omega arith)
+  count-of-rows f g = count-of-word (b .rows) (wrongAt s f g) (let n = fits-fields s .rows-most in omega arith)
 
   -- the offered bytes are those of their own word and polynomials
   own-bytes : Bytes a → a ≡ answerBytes b (wordFrom a) g f
   own-bytes bytes =
       first-four a (omega arith)
-      ∙ ap₂ _++_ (sym (word-bytes a bytes)) (sym (coefficients-written (drop 4 a) (λ k. rw (getD-drop 4 a k 0) (bytes (4 + k))) b (storable s) size-behind))
+      ∙ ap₂ _++_ (sym (word-bytes a bytes)) (sym (coefficients-written (drop 4 a) (λ k. rw (getD-drop 4 a k 0) (bytes (4 + k))) b (fits-polynomials s) size-behind))
 
   pub passes-right : Bytes a → Passes b (jobPoints s) (jobWeights s) (jobValues s) a → OfAnswer s a
   passes-right bytes P =
@@ -103,18 +103,18 @@ module _ (s a : List ℕ) (size : length a ≡ answerLengthOf (boundsOf s)) wher
     alone : a ≡ overwritten (recoveredBytes s f' g') []
     alone = e ∙ sym (append-nil (recoveredBytes s f' g'))
 
-    same-denominator : (k : ℕ) → (k < b .dg + 1) ⊎ (b .dg + 1 ≤ k) → at g' k ≡ at g k
+    same-denominator : (k : ℕ) → (k < b .dg + 1) ⊎ (b .dg + 1 ≤ k) → getD g' k 0 ≡ getD g k 0
     same-denominator k (inl l) =
         let place : 4 + (0 + 2 * k) ≡ 4 + 2 * k = omega arith in
-        sym (coefficient-at (drop 4 a) 0 (b .dg + 1) (let d = narrow s .dg-most in omega arith) k l ∙ number-behind-word a (0 + 2 * k)
+        sym (coefficient-at (drop 4 a) 0 (b .dg + 1) (let d = fits-fields s .dg-most in omega arith) k l ∙ number-behind-word a (0 + 2 * k)
         ∙ ap (numberFrom a) place ∙ denominator-written s f' g' [] a alone (A .within) k (omega arith))
     same-denominator k (inr l) =
-        A .within .denominator .within k l ∙ sym (coefficient-above (drop 4 a) 0 (b .dg + 1) (let d = narrow s .dg-most in omega arith) k l)
+        A .within .denominator .within k l ∙ sym (coefficient-above (drop 4 a) 0 (b .dg + 1) (let d = fits-fields s .dg-most in omega arith) k l)
 
     fits : (i : ℕ) → i < b .outputs → numeratorBoundOf b i + 1 ≤ 32
-    fits i l = let n = storable s .numerators-low i l in omega arith
+    fits i l = let n = fits-polynomials s .numerators-low i l in omega arith
 
-    same-numerator : (i : ℕ) → i < b .outputs → (k : ℕ) → (k < numeratorBoundOf b i + 1) ⊎ (numeratorBoundOf b i + 1 ≤ k) → at (f' i) k ≡ at (f i) k
+    same-numerator : (i : ℕ) → i < b .outputs → (k : ℕ) → (k < numeratorBoundOf b i + 1) ⊎ (numeratorBoundOf b i + 1 ≤ k) → getD (f' i) k 0 ≡ getD (f i) k 0
     same-numerator i li k (inl l) =
         let from = numeratorStart b i - 4 in
         let place : 4 + (from + 2 * k) ≡ numeratorStart b i + 2 * k = omega arith in
@@ -133,9 +133,9 @@ module _ (s a : List ℕ) (size : length a ≡ answerLengthOf (boundsOf s)) wher
     answer-passes : Passes b (jobPoints s) (jobWeights s) (jobValues s) a
     answer-passes =
         let own = answer-same s listed-same A in
-        let word : wordFrom a ≡ wordFor s f g = word-written s f' g' [] a alone (let n = narrow s .rows-most in omega arith) ∙ word-same (b .rows) _ _ (λ r l. wrong-at-same s listed-same r) in
+        let word : wordFrom a ≡ wordFor s f g = word-written s f' g' [] a alone (let n = fits-fields s .rows-most in omega arith) ∙ word-same (b .rows) _ _ (λ r l. wrong-at-same s listed-same r) in
         record {
-          below = none-large b (storable s) (drop 4 a) size-behind (own .within .denominator .residues) (λ i l. own .within .numerators i l .residues);
+          below = none-large b (fits-polynomials s) (drop 4 a) size-behind (own .within .denominator .residues) (λ i l. own .within .numerators i l .residues);
           reduced = own .reduced;
           rows = record {
             named = word ∙ sym (word-of-rows f g);
@@ -155,4 +155,4 @@ module _ (s a : List ℕ) (size : length a ≡ answerLengthOf (boundsOf s)) wher
       let P = right-passes right in
       let word : wordFrom a ≡ wordFor s f g = P .rows .named ∙ word-of-rows f g in
       let count = ap wrongCountOf word ∙ count-of-rows f g in
-      (P .below, P .reduced, (λ r l. rw word (bit-exactly (b .rows) (wrongAt s f g) r (let n = narrow s .rows-most in omega arith) l)), omega (arith, P .rows .few))
+      (P .below, P .reduced, (λ r l. rw word (bit-exactly (b .rows) (wrongAt s f g) r (let n = fits-fields s .rows-most in omega arith) l)), omega (arith, P .rows .few))

@@ -8,7 +8,7 @@ use native.Mathlib.Omega.{arith}
 use lib.ListN.{length}
 use Rattle.format.specs.declared.Reason.{Reason}
 use Rattle.format.specs.declared.Outcome.the-variants.{Accepted, Refused}
-use Rattle.format.specs.Outcomes.{numberOf, reportOf}
+use Rattle.format.specs.Outcomes.{refusalNumber, reportOf}
 use Rattle.format.specs.Bounds.{answerLengthOf}
 use Rattle.header.specs.Header.{boundsOf}
 use Rattle.job.specs.Refusals.{outcomeOf}
@@ -17,7 +17,7 @@ use Rattle.job.proofs.Forms.{form-same}
 use Rattle.answer.proofs.Lengths.{length-answer}
 use Rattle.problem.specs.Answers.{wordFor}
 use Rattle.offered_answer.specs.declared.JudgementReport.{JudgementReport}
-use Rattle.offered_answer.specs.Judgements.{yesReport, noReport, unjudgedReport, formOf, InForm, OfAnswer, JobRefused, LengthRefused, Affirmed, Denied, Judged}
+use Rattle.offered_answer.specs.Judgements.{yesReport, noReport, unjudgedReport, reportWithRoom, InForm, OfAnswer, JobRefused, LengthRefused, Affirmed, Denied, Judged}
 
 -- an answer's bytes have the right length
 pub right-length : (s a : List ℕ) → OfAnswer s a → length a ≡ answerLengthOf (boundsOf s)
@@ -35,7 +35,7 @@ module _ (s a : List ℕ) where
       by (inr (inr (inr n))) = ((λ y. absurd (let e = ap (λ t. t .yes) (n .report) in omega arith)), λ h. absurd (n .wrong (h .1)))
 
   -- a test refuses the job
-  pub settle-malformed : (InForm s → ⊥) → Judged s a (unjudgedReport (formOf s .refusal) (formOf s .row))
+  pub settle-malformed : (InForm s → ⊥) → Judged s a (unjudgedReport (reportWithRoom s .refusal) (reportWithRoom s .row))
   settle-malformed malformed = judged (inl (record { malformed = malformed; report = refl }))
 
   -- no test refuses it
@@ -56,7 +56,7 @@ module _ (s a : List ℕ) where
   pub in-form-if-read : outcomeOf s 254 ≡ Accepted → InForm s
   in-form-if-read accepted = sym form ∙ accepted
 
-  pub settle-refused : {reason : Reason} {row : ℕ} → outcomeOf s 254 ≡ Refused reason row → Judged s a (unjudgedReport (numberOf reason) row)
+  pub settle-refused : {reason : Reason} {row : ℕ} → outcomeOf s 254 ≡ Refused reason row → Judged s a (unjudgedReport (refusalNumber reason) row)
   settle-refused e =
       subst (λ o. Judged s a (unjudgedReport (reportOf o .refusal) (reportOf o .row))) (sym form ∙ e)
       (settle-malformed (λ wf. refused-not-accepted (sym e ∙ form ∙ wf)))

@@ -3,9 +3,9 @@ use mathlib.Core.Path.{_∙_}
 use mathlib.Core.List.{List}
 use Prim.Native.Nat.{ℕ}
 use Rattle.format.specs.declared.Bounds.{Bounds}
-use Rattle.word.proofs.Words.{word-same}
+use Rattle.row_mask.proofs.Words.{word-same}
 use Rattle.problem.specs.Reduced.{Same}
-use Rattle.judge.proofs.JobRows.{wrong-row-same}
+use Rattle.wrong_rows.proofs.JobRows.{wrong-row-same}
 use Rattle.offered_answer.specs.Tests.{RowsAgree}
 
 pub agree-same : {b : Bounds} {points weights values : List ℕ} {word : ℕ} {f f' : ℕ → List ℕ} {g g' : List ℕ} → Same (b .outputs) f g f' g'

@@ -5,7 +5,7 @@ use mathlib.Core.List.{List}
 use Prim.Native.Nat.{ℕ}
 use lib.ListN.{length}
 use Rattle.format.specs.declared.Report.{Report}
-use Rattle.format.specs.Outcomes.{numberOf, reportOf}
+use Rattle.format.specs.Outcomes.{refusalNumber, reportOf}
 use Rattle.format.specs.Bounds.{answerLengthOf}
 use Rattle.header.specs.Header.{boundsOf}
 use Rattle.job.specs.Refusals.{outcomeOf, WellFormed}
@@ -27,12 +27,12 @@ unjudgedReport number row = record { refusal = number; row = row; yes = 0 }
 abbrev pub judgementReportOf : Judgement → JudgementReport
 judgementReportOf Yes = yesReport
 judgementReportOf No = noReport
-judgementReportOf (Refused reason row) = unjudgedReport (numberOf reason) row
+judgementReportOf (Refused reason row) = unjudgedReport (refusalNumber reason) row
 
 -- "1 to 6 as for the job", with 11 in the place of 2 since item 5 and 12 between 5 and 6 since item 6: what its tests say with an area just as long as its
 -- answer, which 7 does not refuse
-abbrev pub formOf : List ℕ → Report
-formOf s = reportOf (outcomeOf s (answerLengthOf (boundsOf s)))
+abbrev pub reportWithRoom : List ℕ → Report
+reportWithRoom s = reportOf (outcomeOf s (answerLengthOf (boundsOf s)))
 
 -- none of these tests refuses the job
 abbrev pub InForm : List ℕ → Type 0
@@ -46,7 +46,7 @@ OfAnswer s a = (f : ℕ → List ℕ) × (g : List ℕ) × Answer s f g × (a �
 -- one of the tests before 7 refuses the job: its number and row are reported
 pub record JobRefused (s : List ℕ) (r : JudgementReport) : Type 0 where
   pub malformed : InForm s → ⊥
-  pub report : r ≡ unjudgedReport (formOf s .refusal) (formOf s .row)
+  pub report : r ≡ unjudgedReport (reportWithRoom s .refusal) (reportWithRoom s .row)
 
 -- "then 3 again if the offered sheet's byte count differs from 01's formula"
 pub record LengthRefused (s a : List ℕ) (r : JudgementReport) : Type 0 where

@@ -7,9 +7,9 @@ use lib.ListN.{drop}
 use Rattle.format.specs.declared.Bounds.{Bounds}
 use Rattle.format.specs.Bounds.{primeOf}
 use Rattle.format.specs.Numbers.{wordFrom}
-use Rattle.word.specs.Word.{wordOf, wrongCountOf}
-use Rattle.coefficients.specs.Coefficients.{denominatorOf, numeratorOf, anyTooLarge}
-use Rattle.judge.specs.Rows.{wrongRowAt}
+use Rattle.row_mask.specs.Word.{wordOf, wrongCountOf}
+use Rattle.answer.specs.Coefficients.{denominatorOf, numeratorOf, anyTooLarge}
+use Rattle.wrong_rows.specs.Rows.{wrongRowAt}
 use Rattle.problem.specs.Reduced.{Reduced}
 
 -- the polynomials that the offered bytes list behind their word

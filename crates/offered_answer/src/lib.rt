@@ -1,18 +1,18 @@
-// Paper 02, item 3: an answer that somebody offers for a job is judged, without recovering the job. (The crate `judge` says which rows are
+// Paper 02, item 3: an answer that somebody offers for a job is judged, without recovering the job. (The crate `wrong_rows` says which rows are
 // wrong for a vector.)
 ghost use Prim.Native.Nat.{_≤_};
 ghost use mathlib.Core.Path.{_≡_};
 ghost use mathlib.Core.Bool.{true};
 ghost use mathlib.Core.Logic.{_↔_};
 ghost use lib.ListN.{length};
-ghost use Rattle.format.specs.Bounds.{answerLengthOf, Storable};
+ghost use Rattle.format.specs.Bounds.{answerLengthOf, FitsPolynomials};
 ghost use Rattle.format.specs.Numbers.{wordFrom};
 ghost use Rattle.poly.specs.Vectors.{coefficientsAt};
 ghost use Rattle.problem.specs.Answers.{Within};
 ghost use Rattle.offered_answer.specs.Judgements.{judgementReportOf, Judged};
 ghost use Rattle.offered_answer.specs.Tests.{RowsAgree, Passes};
-use coefficients::Vector;
-use coefficients::read_vector;
+use answer::Vector;
+use answer::read_vector;
 use format::Bounds;
 use format::Outcome;
 use format::Reason;
@@ -52,7 +52,7 @@ pub fn reported(judgement: Judgement) -> JudgementReport
             yes: 0,
         },
         Judgement::Refused { reason, row } => {
-            let refusal = format::number(reason);
+            let refusal = format::refusal_number(reason);
             JudgementReport {
                 refusal: refusal,
                 row: row,
@@ -79,16 +79,16 @@ fn rows_agree(
     v: Vector,
     word: u32,
 ) -> bool
-    requires { ⌜ (b .rows ≤ 32) × Storable b × Within b (coefficientsAt (v .f)) (v .g .c) ⌝ }
+    requires { ⌜ (b .rows ≤ 32) × FitsPolynomials b × Within b (coefficientsAt (v .f)) (v .g .c) ⌝ }
     ensures { λ r. ⌜ (r ≡ true) ↔ RowsAgree b points weights values word (coefficientsAt (v .f)) (v .g .c) ⌝ }
 {
     let g = v.g;
     let f = v.f;
-    let wrong = judge::wrong_rows(b, points, weights, values, g, f);
+    let wrong = wrong_rows::wrong_rows(b, points, weights, values, g, f);
     if wrong != word {
         return false;
     }
-    word::wrong_count(word) as usize <= b.errors
+    row_mask::wrong_count(word) as usize <= b.errors
 }
 
 // The tests, on the offered bytes and the rows; the dearest comes last.
@@ -99,7 +99,7 @@ fn passes(
     values: [u32; 128],
     offered: &[u8],
 ) -> bool
-    requires { ⌜ (b .rows ≤ 32) × Storable b × (length (now offered) ≡ answerLengthOf b) ⌝ }
+    requires { ⌜ (b .rows ≤ 32) × FitsPolynomials b × (length (now offered) ≡ answerLengthOf b) ⌝ }
     ensures { λ r. ⌜ (r ≡ true) ↔ Passes b points weights values (now (offered .entry)) ⌝ }
 {
     let end = offered.len();
@@ -119,27 +119,27 @@ fn passes(
 }
 
 // Any job, any offered answer: the caller owes nothing.
-pub fn judge_answer(job: &[u8], offered: &[u8]) -> Judgement
+pub fn judge(job: &[u8], offered: &[u8]) -> Judgement
     ensures { λ r. ⌜ Judged (now (job .entry)) (now (offered .entry)) (judgementReportOf r) ⌝ }
 {
-    let reading = job::read(job, LONGEST);
-    let verdict = reading.outcome;
-    if let Outcome::Refused { reason, row } = verdict {
+    let parsed = job::read(job, LONGEST);
+    let outcome = parsed.outcome;
+    if let Outcome::Refused { reason, row } = outcome {
         return Judgement::Refused {
             reason: reason,
             row: row,
         };
     }
-    let b = reading.bounds;
+    let b = parsed.bounds;
     if offered.len() != b.answer_length() {
         return Judgement::Refused {
             reason: Reason::ByteCount,
             row: 0,
         };
     }
-    let points = reading.points;
-    let weights = reading.weights;
-    let values = reading.values;
+    let points = parsed.points;
+    let weights = parsed.weights;
+    let values = parsed.values;
     if passes(b, points, weights, values, offered) {
         return Judgement::Yes;
     }

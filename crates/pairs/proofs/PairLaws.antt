@@ -9,7 +9,7 @@ use lib.Dec.{eqb, leb}
 use lib.ListN.{getD}
 use borrow.Author.Tests.{eq-eqb, ne-eqb, le-leb, lt-leb}
 use Rattle.poly.specs.declared.Poly.{Poly}
-use Rattle.poly.specs.Coefficients.{at, Bounded}
+use Rattle.poly.specs.Coefficients.{Bounded}
 use Rattle.poly.specs.Vectors.{onePoly, zeroPoly}
 use Rattle.lists.proofs.Tabulated.{at-zeros}
 use Rattle.poly.proofs.Lists.{bounded-mono, bounded-zeros}
@@ -96,11 +96,11 @@ module _ {s t : Pairs} (same : s ≡ t) where
 pub bounded-one : (p : ℕ) → 1 < p → Bounded p 1 (onePoly .c)
 bounded-one p l = record { residues = low; within = past }
   where
-    low : (k : ℕ) → at (onePoly .c) k < p
+    low : (k : ℕ) → getD (onePoly .c) k 0 < p
     low zero = l
     low (suc k) = let z = at-zeros 31 k in omega arith
 
-    past : (k : ℕ) → 1 ≤ k → at (onePoly .c) k ≡ 0
+    past : (k : ℕ) → 1 ≤ k → getD (onePoly .c) k 0 ≡ 0
     past zero h = absurd (omega arith)
     past (suc k) h = at-zeros 31 k
 

@@ -5,8 +5,8 @@ use mathlib.Core.List.{List}
 use Prim.Native.Nat.{ℕ, zero, suc, _+_, _-_, _*_, _%_, _≤_, _<_}
 use lib.Dec.{eqb, leb}
 use lib.ListN.{getD}
-use Rattle.word.specs.Word.{countBelow}
-use Rattle.poly.specs.Coefficients.{at, Bounded}
+use Rattle.lists.specs.Counting.{countBelow}
+use Rattle.poly.specs.Coefficients.{Bounded}
 use Rattle.poly.specs.Vectors.{onePoly, zeroPoly}
 use Rattle.poly.specs.Operations.{valueOf, combinationOf, timesLinearOf}
 use Rattle.pairs.specs.declared.Pair.{Pair}
@@ -27,8 +27,8 @@ pub record PairsBounded (p n : ℕ) (s : Pairs) : Type 0 where
 
 -- both polynomials are zero from n on
 pub record PairShort (n : ℕ) (s : Pair) : Type 0 where
-  pub left : (k : ℕ) → n ≤ k → at (s .a .c) k ≡ 0
-  pub right : (k : ℕ) → n ≤ k → at (s .b .c) k ≡ 0
+  pub left : (k : ℕ) → n ≤ k → getD (s .a .c) k 0 ≡ 0
+  pub right : (k : ℕ) → n ≤ k → getD (s .b .c) k 0 ≡ 0
 
 -- what the rows and the degree bounds A and B keep to
 pub record Conditions (p : ℕ) (points weights z : List ℕ) (rows A B : ℕ) : Type 0 where
@@ -41,7 +41,7 @@ pub record Conditions (p : ℕ) (points weights z : List ℕ) (rows A B : ℕ) :
 
 -- row l asks something: with weight 0 and z 0 it is idle, and every pair meets its condition
 abbrev pub activeAt : (weights z : List ℕ) → ℕ → Bool
-activeAt weights z l = not (eqb (at weights l) 0 && eqb (at z l) 0)
+activeAt weights z l = not (eqb (getD weights l 0) 0 && eqb (getD z l 0) 0)
 
 -- how many of the rows do
 abbrev pub activeCount : (weights z : List ℕ) → (rows : ℕ) → ℕ

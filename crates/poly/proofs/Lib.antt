@@ -3,3 +3,4 @@ pub mod Bounds
 pub mod Values
 pub mod Linear
 pub mod Lengths
+pub mod Products

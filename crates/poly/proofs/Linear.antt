@@ -1,4 +1,5 @@
 -- The values of d a - c b and of (u - x) a, by the values of a and b.
+use lib.ListN.{getD}
 use mathlib.Core.Path.{_≡_, refl, sym, ap, ap₂, _∙_}
 use mathlib.Core.List.{List, [], _∷_}
 use Prim.Native.Nat.{ℕ, zero, suc, _+_, _-_, _*_, _/_, _%_, _≤_}
@@ -6,7 +7,6 @@ use native.Mathlib.Nat.{add-zero, div-add-mod', mod-add-mod, one-mul, zero-mul}
 use native.Mathlib.Omega.{arith}
 use Rattle.field.proofs.Remainders.{same-remainder}
 use Rattle.lists.specs.Tabulated.{tabulate}
-use Rattle.poly.specs.Coefficients.{at}
 use Rattle.poly.specs.Operations.{valueOf, combinationAt, combinationOf, timesLinearAt, timesLinearOf}
 use Rattle.poly.proofs.Bounds.{zero-remainder}
 use Rattle.poly.proofs.Values.{value-zeros}
@@ -35,22 +35,22 @@ value-linear p y d m (suc n) f g =
     ∙ linear-step p y d m (f 0) (g 0) _ _
 
 -- zeros past the first n coefficients do not count
-value-first : (p y n : ℕ) (a : List ℕ) → ((k : ℕ) → n ≤ k → at a k ≡ 0) → valueOf p y (tabulate n (at a)) ≡ valueOf p y a
+value-first : (p y n : ℕ) (a : List ℕ) → ((k : ℕ) → n ≤ k → getD a k 0 ≡ 0) → valueOf p y (tabulate n (λ k. getD a k 0)) ≡ valueOf p y a
 unfolding valueOf tabulate
 value-first p y zero a past = sym (value-zeros p y a (λ k. past k (omega arith)))
 value-first p y (suc n) [] past = zero-remainder p _ (let rest = value-first p y n [] (λ k h. refl) in rw rest (omega arith))
 value-first p y (suc n) (c ∷ cs) past = ap (λ v. (c + y * v) % p) (value-first p y n cs (λ k h. past (suc k) (omega arith)))
 
 -- d a - c b
-pub value-combination : (p y d c : ℕ) (a b : List ℕ) → ((k : ℕ) → 32 ≤ k → at a k ≡ 0) → ((k : ℕ) → 32 ≤ k → at b k ≡ 0)
+pub value-combination : (p y d c : ℕ) (a b : List ℕ) → ((k : ℕ) → 32 ≤ k → getD a k 0 ≡ 0) → ((k : ℕ) → 32 ≤ k → getD b k 0 ≡ 0)
     → valueOf p y (combinationOf p d a c b) ≡ (d * valueOf p y a + (p - c) * valueOf p y b) % p
 unfolding combinationOf combinationAt
 value-combination p y d c a b past-a past-b =
-    value-linear p y d (p - c) 32 (at a) (at b)
+    value-linear p y d (p - c) 32 (λ k. getD a k 0) (λ k. getD b k 0)
     ∙ ap₂ (λ v w. (d * v + (p - c) * w) % p) (value-first p y 32 a past-a) (value-first p y 32 b past-b)
 
 -- (u - x) a, which is 1 (u a) - x a
-pub value-times-linear : (p y x : ℕ) (a : List ℕ) → ((k : ℕ) → 31 ≤ k → at a k ≡ 0)
+pub value-times-linear : (p y x : ℕ) (a : List ℕ) → ((k : ℕ) → 31 ≤ k → getD a k 0 ≡ 0)
     → valueOf p y (timesLinearOf p x a) ≡ (y + (p - x)) * valueOf p y a % p
 unfolding timesLinearOf timesLinearAt combinationOf combinationAt valueOf
 value-times-linear p y x a past =
@@ -58,6 +58,6 @@ value-times-linear p y x a past =
     ∙ mod-add-mod (0 + y * valueOf p y a) p ((p - x) * valueOf p y a)
     ∙ ap (λ n. n % p) (omega arith)
   where
-    shifted : (k : ℕ) → 32 ≤ k → at (0 ∷ a) k ≡ 0
+    shifted : (k : ℕ) → 32 ≤ k → getD (0 ∷ a) k 0 ≡ 0
     shifted zero h = absurd (omega arith)
     shifted (suc k) h = past k (omega arith)

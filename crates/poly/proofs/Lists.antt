@@ -4,10 +4,10 @@ use mathlib.Core.List.{List}
 use Prim.Native.Nat.{ℕ, _≤_, _<_}
 use native.Mathlib.Decide.{decLt}
 use native.Mathlib.Omega.{arith}
-use lib.ListN.{replicate}
+use lib.ListN.{getD, replicate}
 use Rattle.lists.specs.Tabulated.{tabulate}
 use Rattle.lists.proofs.Tabulated.{at-tabulate, at-tabulate-past, at-zeros}
-use Rattle.poly.specs.Coefficients.{at, Bounded}
+use Rattle.poly.specs.Coefficients.{Bounded}
 
 pub bounded-mono : {p n m : ℕ} {a : List ℕ} → Bounded p n a → n ≤ m → Bounded p m a
 bounded-mono b h = record { residues = b .residues; within = λ k l. b .within k (omega arith) }
@@ -24,10 +24,10 @@ bounded-tabulate p n m f small past = record {
   within = λ k l. zero-past k l (decLt k m);
 }
   where
-    go : (k : ℕ) → Dec (k < m) → at (tabulate m f) k < p
+    go : (k : ℕ) → Dec (k < m) → getD (tabulate m f) k 0 < p
     go k (yes h) = rw (at-tabulate m f k h) (small k)
     go k (no h) = let e = at-tabulate-past m f k (omega arith) in let s = small k in omega arith
 
-    zero-past : (k : ℕ) → n ≤ k → Dec (k < m) → at (tabulate m f) k ≡ 0
+    zero-past : (k : ℕ) → n ≤ k → Dec (k < m) → getD (tabulate m f) k 0 ≡ 0
     zero-past k l (yes h) = at-tabulate m f k h ∙ past k l
     zero-past k l (no h) = at-tabulate-past m f k (omega arith)

@@ -4,13 +4,12 @@ use mathlib.Core.List.{List, [], _∷_}
 use Prim.Native.Nat.{ℕ, suc, _+_, _*_, _%_, _≤_, _<_}
 use native.Mathlib.Nat.{mod-lt}
 use native.Mathlib.Omega.{arith}
-use lib.ListN.{length, drop}
+use lib.ListN.{getD, length, drop}
 use lib.Seq.{drop-cons, getD-drop}
-use Rattle.poly.specs.Coefficients.{at}
 use Rattle.poly.specs.Operations.{valueOf}
 use Rattle.poly.proofs.Bounds.{zero-remainder}
 
-pub value-zeros : (p x : ℕ) (a : List ℕ) → ((k : ℕ) → at a k ≡ 0) → valueOf p x a ≡ 0
+pub value-zeros : (p x : ℕ) (a : List ℕ) → ((k : ℕ) → getD a k 0 ≡ 0) → valueOf p x a ≡ 0
 unfolding valueOf
 value-zeros p x [] h = refl
 value-zeros p x (c ∷ cs) h =
@@ -20,11 +19,11 @@ value-zeros p x (c ∷ cs) h =
     zero-remainder p _ sum
 
 -- what the loop starts from: nothing from i on, where i is at least n
-pub value-start : (p x n i : ℕ) (a : List ℕ) → n ≤ i → ((k : ℕ) → n ≤ k → at a k ≡ 0) → valueOf p x (drop i a) ≡ 0
+pub value-start : (p x n i : ℕ) (a : List ℕ) → n ≤ i → ((k : ℕ) → n ≤ k → getD a k 0 ≡ 0) → valueOf p x (drop i a) ≡ 0
 value-start p x n i a l h = value-zeros p x (drop i a) (λ k. getD-drop i a k 0 ∙ h (i + k) (omega arith))
 
 -- one coefficient more
-pub value-more : (p x : ℕ) (a : List ℕ) (i : ℕ) → i < length a → valueOf p x (drop i a) ≡ (at a i + x * valueOf p x (drop (suc i) a)) % p
+pub value-more : (p x : ℕ) (a : List ℕ) (i : ℕ) → i < length a → valueOf p x (drop i a) ≡ (getD a i 0 + x * valueOf p x (drop (suc i) a)) % p
 unfolding valueOf
 value-more p x a i l = rw (drop-cons a i 0 l)
 

@@ -1,9 +1,13 @@
 // Polynomials modulo one of the four primes, with at most 32 coefficients. The parameter n of a function says from where on
 // all coefficients are zero: the loops go no further.
+pub mod multiplication;
+pub mod scaling;
+
+pub use multiplication::product;
+pub use scaling::scaled;
 ghost use Prim.Native.Nat.{ℕ, _≤_};
 ghost use mathlib.Core.Path.{_≡_};
-ghost use lib.ListN.{replicate};
-ghost use Rattle.poly.specs.Coefficients.{at};
+ghost use lib.ListN.{getD, replicate};
 ghost use Rattle.poly.specs.Operations.{lengthOf};
 
 // Coefficients from the constant term upward.
@@ -19,7 +23,7 @@ pub fn zero() -> Poly
 
 // The degree plus 1; 0 for the zero polynomial.
 pub fn length(n: usize, a: Poly) -> usize
-    requires { ⌜ (n ≤ 32) × ((k : ℕ) → n ≤ k → at (a .c) k ≡ 0) ⌝ }
+    requires { ⌜ (n ≤ 32) × ((k : ℕ) → n ≤ k → getD (a .c) k 0 ≡ 0) ⌝ }
     ensures { λ r. ⌜ (r ≡ lengthOf (a .c)) × (r ≤ n) ⌝ }
 {
     let mut i = n;

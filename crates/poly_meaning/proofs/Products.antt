@@ -1,4 +1,5 @@
 -- The product of lists is the product of polynomials.
+use lib.ListN.{getD}
 use mathlib.Core.Path.{_≡_, sym, _∙_, ap, ap₂}
 use mathlib.Core.List.{List}
 use Prim.Native.Nat.{ℕ, zero, suc, _+_, _-_, _*_, _%_, _≤_}
@@ -7,9 +8,9 @@ use native.Mathlib.Omega.{arith}
 use Rattle.algebra.proofs.Series.{mulS, mulS-zero, mulS-suc}
 use Rattle.field.proofs.Primality.{IsPrime}
 use Rattle.reciprocal.proofs.PrimeField.{residue, addR, residue-add, residue-mul, residueRing}
-use Rattle.poly.specs.Coefficients.{at, Bounded}
+use Rattle.poly.specs.Coefficients.{Bounded}
 use Rattle.poly.specs.Operations.{sumBelow, productAt, productOf}
-use Rattle.poly_product.proofs.Products.{sum-first, sum-cong, product-reduced-past}
+use Rattle.poly.proofs.Products.{sum-first, sum-cong, product-reduced-past}
 use Rattle.poly_meaning.proofs.Series.{series, residue-mod, tabulate-means}
 
 module _ (p : ℕ) (P : IsPrime p) where
@@ -31,7 +32,7 @@ module _ (p : ℕ) (P : IsPrime p) where
   pub productAt-means : (a b : List ℕ) (k : ℕ)
       → residue p P (productAt a b k) ≡ mulS (residueRing p P) (series p P a) (series p P b) k
   unfolding productAt series
-  productAt-means a b k = convolution-means (at a) (at b) k
+  productAt-means a b k = convolution-means (λ k. getD a k 0) (λ k. getD b k 0) k
 
   pub product-means : {la lb : ℕ} {a b : List ℕ} → Bounded p la a → Bounded p lb b → la + lb ≤ 33
       → series p P (productOf p a b) ≡ mulS (residueRing p P) (series p P a) (series p P b)

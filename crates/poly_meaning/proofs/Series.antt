@@ -4,7 +4,7 @@ use mathlib.Core.List.{List, [], _∷_}
 use Prim.Native.Nat.{ℕ, zero, suc, _+_, _-_, _*_, _%_, _≤_, _<_}
 use native.Mathlib.Nat.{mod-mod, mod-eq-of-lt, zero-add, zero-mod}
 use native.Mathlib.Omega.{arith}
-use lib.ListN.{length, replicate}
+use lib.ListN.{getD, length, replicate}
 use Rattle.algebra.proofs.Ring.{Ring, add-comm, neg-mul}
 use Rattle.algebra.proofs.Series.{Series, addS, negS, nullS, constS, scaleS, mulS, constS-zero, constS-suc}
 use Rattle.algebra.proofs.Bounds.{Below}
@@ -12,7 +12,7 @@ use Rattle.algebra.proofs.Value.{value, value-stable, linear, linear-mul-zero, 
 use Rattle.field.proofs.Primality.{IsPrime}
 use Rattle.reciprocal.proofs.PrimeField.{Residue, residue, residue-equal, equal-residue, addR, mulR, negR, residue-add, residue-mul, residue-neg, residueRing}
 use Rattle.lists.specs.Tabulated.{tabulate}
-use Rattle.poly.specs.Coefficients.{at, Bounded}
+use Rattle.poly.specs.Coefficients.{Bounded}
 use Rattle.poly.specs.Operations.{valueOf, combinationAt, combinationOf, timesLinearAt, timesLinearOf, scaledAt, scaledOf}
 use Rattle.lists.proofs.Tabulated.{at-tabulate-all, at-past, at-zeros}
 use Rattle.poly.proofs.Bounds.{combination-past, times-linear-past, scaled-past}
@@ -25,7 +25,7 @@ module _ (p : ℕ) (P : IsPrime p) where
   ρ = residue p P
 
   unfoldable pub series : List ℕ → Series (residueRing p P)
-  series a = λ k. residue p P (at a k)
+  series a = λ k. residue p P (getD a k 0)
 
   pub residue-mod : (n : ℕ) → residue p P (n % p) ≡ residue p P n
   residue-mod n = residue-equal p P _ _ (mod-mod n p)
@@ -33,7 +33,7 @@ module _ (p : ℕ) (P : IsPrime p) where
   pub residue-zero : (n : ℕ) → n < p → residue p P n ≡ residue p P 0 → n ≡ 0
   residue-zero n l e = sym (mod-eq-of-lt l) ∙ equal-residue p P n 0 e ∙ zero-mod p
 
-  pub series-at : (a : List ℕ) (k : ℕ) → series a k ≡ residue p P (at a k)
+  pub series-at : (a : List ℕ) (k : ℕ) → series a k ≡ residue p P (getD a k 0)
   unfolding series
   series-at a k = refl
 
@@ -80,7 +80,7 @@ module _ (p : ℕ) (P : IsPrime p) where
   unfolding combinationOf combinationAt addS negS scaleS series
   combination-means {n} {a} {b} d0 d1 ba bb l u =
       tabulate-means 32 (combinationAt p d0 a d1 b) _ (λ k h. combination-past ba bb d0 d1 k (omega arith))
-      (λ k. residue-sum-of-products d0 (at a k) (p - d1) (at b k) ∙ ap (addR p P (mulR p P (ρ d0) (ρ (at a k)))) (residue-negated-product d1 (ρ (at b k)) u))
+      (λ k. residue-sum-of-products d0 (getD a k 0) (p - d1) (getD b k 0) ∙ ap (addR p P (mulR p P (ρ d0) (ρ (getD a k 0)))) (residue-negated-product d1 (ρ (getD b k 0)) u))
 
   pub times-linear-means : {n : ℕ} {a : List ℕ} (x : ℕ) → Bounded p n a → n < 32 → x < p
       → series (timesLinearOf p x a) ≡ mulS (residueRing p P) (linear (residueRing p P) (residue p P x)) (series a)
@@ -90,12 +90,12 @@ module _ (p : ℕ) (P : IsPrime p) where
     where
       at-each : (k : ℕ) → ρ (timesLinearAt p x a k) ≡ mulS R (linear R (ρ x)) (series a) k
       at-each zero =
-          residue-mod _ ∙ ap ρ (zero-add _) ∙ sym (residue-mul p P _ _) ∙ ap (λ t. mulR p P t (ρ (at a 0))) (sym (residue-neg p P x u))
+          residue-mod _ ∙ ap ρ (zero-add _) ∙ sym (residue-mul p P _ _) ∙ ap (λ t. mulR p P t (ρ (getD a 0 0))) (sym (residue-neg p P x u))
           ∙ sym (linear-mul-zero R (ρ x) (series a))
       at-each (suc k) =
-          residue-mod _ ∙ sym (residue-add p P (at a k) _) ∙ add-comm R _ _
-          ∙ ap (λ t. addR p P t (ρ (at a k)))
-          (sym (residue-mul p P _ _) ∙ ap (λ t. mulR p P t (ρ (at a (suc k)))) (sym (residue-neg p P x u)))
+          residue-mod _ ∙ sym (residue-add p P (getD a k 0) _) ∙ add-comm R _ _
+          ∙ ap (λ t. addR p P t (ρ (getD a k 0)))
+          (sym (residue-mul p P _ _) ∙ ap (λ t. mulR p P t (ρ (getD a (suc k) 0))) (sym (residue-neg p P x u)))
           ∙ sym (linear-mul-suc R (ρ x) (series a) k)
 
   -- Horner's rule

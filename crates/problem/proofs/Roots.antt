@@ -1,4 +1,5 @@
 -- Paper 01, "The object": "A row at a root of g is always wrong". So it is for every reduced vector, and with paper 02, item 6, "for unmarked rows only".
+use lib.ListN.{getD}
 use mathlib.Core.Path.{_≡_, refl, _∙_, ap, ap₂}
 use mathlib.Core.Bool.{Bool, true, false, not}
 use mathlib.Core.List.{List, [], _∷_}
@@ -7,9 +8,8 @@ use native.Mathlib.Nat.{mod-lt, mod-eq-of-lt, mod-add-div', zero-mul, one-mul, a
 use native.Mathlib.Omega.{arith}
 use lib.Dec.{eqb}
 use Rattle.field.proofs.Remainders.{same-remainder}
-use Rattle.poly.specs.Coefficients.{at}
 use Rattle.poly.specs.Operations.{valueOf, productAt}
-use Rattle.poly_product.proofs.Products.{sum-first, sum-zeros}
+use Rattle.poly.proofs.Products.{sum-first, sum-zeros}
 use Rattle.field.proofs.Moduli.{modulus-prime}
 use Rattle.format.specs.Bounds.{primeOf}
 use Rattle.header.specs.Header.{boundsOf}
@@ -27,7 +27,7 @@ module _ (p x : ℕ) (two : 1 < p) where
   quotient [] = []
   quotient (c ∷ a) = valueOf p x a ∷ quotient a
 
-  quotient-step : (a : List ℕ) (k : ℕ) → (at a k + x * at (quotient a) k) % p ≡ at (valueOf p x a ∷ quotient a) k
+  quotient-step : (a : List ℕ) (k : ℕ) → (getD a k 0 + x * getD (quotient a) k 0) % p ≡ getD (valueOf p x a ∷ quotient a) k 0
   unfolding quotient valueOf
   quotient-step [] zero = let z : 0 + x * 0 ≡ 0 = omega arith in ap (λ t. t % p) z ∙ zero-mod p
   quotient-step [] (suc k) = let z : 0 + x * 0 ≡ 0 = omega arith in ap (λ t. t % p) z ∙ zero-mod p
@@ -39,32 +39,32 @@ module _ (p x : ℕ) (two : 1 < p) where
   minus = p - x % p
 
   -- u - x times a polynomial, coefficient by coefficient
-  product-linear : (e : List ℕ) (k : ℕ) → productAt (minus ∷ 1 ∷ []) e k ≡ minus * at e k + at (0 ∷ e) k
+  product-linear : (e : List ℕ) (k : ℕ) → productAt (minus ∷ 1 ∷ []) e k ≡ minus * getD e k 0 + getD (0 ∷ e) k 0
   unfolding productAt
   product-linear e zero =
-      let first = sum-first 0 (λ i. at (minus ∷ 1 ∷ []) i * at e (0 - i)) in
-      let rest = sum-zeros 0 (λ i. at (1 ∷ []) i * at e (0 - suc i)) (λ i l. absurd (omega arith)) in
+      let first = sum-first 0 (λ i. getD (minus ∷ 1 ∷ []) i 0 * getD e (0 - i) 0) in
+      let rest = sum-zeros 0 (λ i. getD (1 ∷ []) i 0 * getD e (0 - suc i) 0) (λ i l. absurd (omega arith)) in
       omega arith
   product-linear e (suc k) =
-      let first = sum-first (suc k) (λ i. at (minus ∷ 1 ∷ []) i * at e (suc k - i)) in
-      let second = sum-first k (λ i. at (1 ∷ []) i * at e (suc k - suc i)) in
-      let rest = sum-zeros k (λ i. at [] i * at e (suc k - suc (suc i))) (λ i l. zero-mul _) in
-      let here : minus * at e (suc k - 0) ≡ minus * at e (suc k) = ap (λ i. minus * at e i) (let n : suc k - 0 ≡ suc k = omega arith in n) in
-      let before : 1 * at e (suc k - 1) ≡ at e k = ap (λ i. 1 * at e i) (let n : suc k - 1 ≡ k = omega arith in n) ∙ one-mul (at e k) in
-      first ∙ ap₂ _+_ here (second ∙ ap₂ _+_ before rest ∙ add-zero (at e k))
+      let first = sum-first (suc k) (λ i. getD (minus ∷ 1 ∷ []) i 0 * getD e (suc k - i) 0) in
+      let second = sum-first k (λ i. getD (1 ∷ []) i 0 * getD e (suc k - suc i) 0) in
+      let rest = sum-zeros k (λ i. getD [] i 0 * getD e (suc k - suc (suc i)) 0) (λ i l. zero-mul _) in
+      let here : minus * getD e (suc k - 0) 0 ≡ minus * getD e (suc k) 0 = ap (λ i. minus * getD e i 0) (let n : suc k - 0 ≡ suc k = omega arith in n) in
+      let before : 1 * getD e (suc k - 1) 0 ≡ getD e k 0 = ap (λ i. 1 * getD e i 0) (let n : suc k - 1 ≡ k = omega arith in n) ∙ one-mul (getD e k 0) in
+      first ∙ ap₂ _+_ here (second ∙ ap₂ _+_ before rest ∙ add-zero (getD e k 0))
 
   -- with a root at x, a is a multiple of u - x
   root-divides : (a : List ℕ) → valueOf p x a ≡ 0 → Divides p (minus ∷ 1 ∷ []) a
   root-divides a root = (quotient a, λ k. ap (λ t. t % p) (product-linear (quotient a) k) ∙ coefficient k)
     where
-      before : (k : ℕ) → at (valueOf p x a ∷ quotient a) k ≡ at (0 ∷ quotient a) k
+      before : (k : ℕ) → getD (valueOf p x a ∷ quotient a) k 0 ≡ getD (0 ∷ quotient a) k 0
       before zero = root
       before (suc k) = refl
 
-      coefficient : (k : ℕ) → (minus * at (quotient a) k + at (0 ∷ quotient a) k) % p ≡ at a k % p
+      coefficient : (k : ℕ) → (minus * getD (quotient a) k 0 + getD (0 ∷ quotient a) k 0) % p ≡ getD a k 0 % p
       coefficient k =
-          let q = at (quotient a) k in
-          let s = at a k + x * q in
+          let q = getD (quotient a) k 0 in
+          let s = getD a k 0 + x * q in
           let below = mod-lt x {m = p} (omega arith) in
           let whole = mod-add-div' x p in
           let split : (minus + x) * q ≡ (1 + x / p) * p * q = ap (λ t. t * q) (let e : minus + x ≡ (1 + x / p) * p = omega arith in e) in

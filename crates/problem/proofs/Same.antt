@@ -1,25 +1,26 @@
 -- Vectors compared by their coefficients: of the same vector the same rows are wrong, it is an answer of the same jobs, and its bytes are the same.
+use lib.ListN.{getD}
 use mathlib.Core.Path.{_≡_, refl, sym, _∙_, ap, ap₂, subst}
 use mathlib.Core.List.{List, _++_}
 use Prim.Native.Nat.{ℕ, zero, suc, _+_, _%_, _<_}
 use native.Mathlib.Omega.{arith}
 use Rattle.format.specs.declared.Bounds.{Bounds}
 use Rattle.format.specs.Bounds.{primeOf, numeratorBoundOf}
-use Rattle.poly.specs.Coefficients.{at, Bounded}
+use Rattle.poly.specs.Coefficients.{Bounded}
 use Rattle.header.specs.Header.{boundsOf}
 use Rattle.rows.specs.Rows.{jobPoint}
-use Rattle.word.proofs.Words.{word-same}
-use Rattle.word.proofs.Counts.{count-same}
+use Rattle.row_mask.proofs.Words.{word-same}
+use Rattle.lists.proofs.Counting.{count-same}
 use Rattle.answer.specs.Bytes.{twoBytes, fourBytes, coefficientBytes, outputBytes, answerBytes}
 use Rattle.problem.specs.Reduced.{Divides, Reduced, Same}
 use Rattle.problem.specs.Answers.{wrongAt, wrongCount, Within, Answer, recoveredBytes}
 use Rattle.marked_rows.specs.Marks.{markAt}
 use Rattle.problem.proofs.Rows.{verdict-same}
 
-bounded-same : {p n : ℕ} {a b : List ℕ} → ((k : ℕ) → at a k ≡ at b k) → Bounded p n a → Bounded p n b
+bounded-same : {p n : ℕ} {a b : List ℕ} → ((k : ℕ) → getD a k 0 ≡ getD b k 0) → Bounded p n a → Bounded p n b
 bounded-same {p} e h = record { residues = λ k. subst (λ t. t < p) (e k) (h .residues k); within = λ k l. sym (e k) ∙ h .within k l }
 
-divides-same : (p : ℕ) (d a b : List ℕ) → ((k : ℕ) → at a k ≡ at b k) → Divides p d b → Divides p d a
+divides-same : (p : ℕ) (d a b : List ℕ) → ((k : ℕ) → getD a k 0 ≡ getD b k 0) → Divides p d b → Divides p d a
 divides-same p d a b e D = (D .0, λ k. D .1 k ∙ ap (λ t. t % p) (sym (e k)))
 
 pub same-sym : {n : ℕ} {f f' : ℕ → List ℕ} {g g' : List ℕ} → Same n f g f' g' → Same n f' g' f g
@@ -27,7 +28,7 @@ same-sym h = record { denominator = λ k. sym (h .denominator k); numerators = �
 
 -- equal polynomials have the same coefficients
 pub same-if-equal : {n : ℕ} {f f' : ℕ → List ℕ} {g g' : List ℕ} → ((i : ℕ) → i < n → f i ≡ f' i) → g ≡ g' → Same n f g f' g'
-same-if-equal ef eg = record { denominator = λ k. ap (λ t. at t k) eg; numerators = λ i l k. ap (λ t. at t k) (ef i l) }
+same-if-equal ef eg = record { denominator = λ k. ap (λ t. getD t k 0) eg; numerators = λ i l k. ap (λ t. getD t k 0) (ef i l) }
 
 pub within-same : {b : Bounds} {f f' : ℕ → List ℕ} {g g' : List ℕ} → Same (b .outputs) f g f' g' → Within b f g → Within b f' g'
 within-same h w = record { numerators = λ i l. bounded-same (h .numerators i l) (w .numerators i l); denominator = bounded-same (h .denominator) (w .denominator) }
@@ -62,12 +63,12 @@ module _ (s : List ℕ) {f f' : ℕ → List ℕ} {g g' : List ℕ} (h : Same (b
   }
 
 -- an answer's bytes depend on the coefficients alone
-coefficients-same : (a b : List ℕ) → ((k : ℕ) → at a k ≡ at b k) → (n : ℕ) → coefficientBytes a n ≡ coefficientBytes b n
+coefficients-same : (a b : List ℕ) → ((k : ℕ) → getD a k 0 ≡ getD b k 0) → (n : ℕ) → coefficientBytes a n ≡ coefficientBytes b n
 unfolding coefficientBytes
 coefficients-same a b e zero = refl
 coefficients-same a b e (suc n) = ap₂ (λ l v. l ++ twoBytes v) (coefficients-same a b e n) (e n)
 
-outputs-same : (b : Bounds) (f f' : ℕ → List ℕ) (n : ℕ) → ((i : ℕ) → i < n → (k : ℕ) → at (f i) k ≡ at (f' i) k) → outputBytes b f n ≡ outputBytes b f' n
+outputs-same : (b : Bounds) (f f' : ℕ → List ℕ) (n : ℕ) → ((i : ℕ) → i < n → (k : ℕ) → getD (f i) k 0 ≡ getD (f' i) k 0) → outputBytes b f n ≡ outputBytes b f' n
 unfolding outputBytes
 outputs-same b f f' zero e = refl
 outputs-same b f f' (suc n) e =

@@ -7,7 +7,8 @@ use Rattle.format.specs.Bounds.{primeOf, numeratorBoundOf}
 use Rattle.poly.specs.Coefficients.{Bounded}
 use Rattle.header.specs.Header.{boundsOf}
 use Rattle.rows.specs.Rows.{jobPoint, jobValue}
-use Rattle.word.specs.Word.{wordOf, countBelow}
+use Rattle.row_mask.specs.Word.{wordOf}
+use Rattle.lists.specs.Counting.{countBelow}
 use Rattle.answer.specs.Bytes.{answerBytes}
 use Rattle.marked_rows.specs.Marks.{markAt}
 use Rattle.problem.specs.Rows.{Verdict, verdictOf, isWrong}

@@ -3,7 +3,7 @@ use Prim.Native.Nat.{ℕ, _*_, _<_}
 use mathlib.Core.Path.{_≡_, refl}
 use native.Mathlib.Nat.{mul-mod-left}
 use borrow.Author.Tests.{lt-leb}
-use Rattle.row_search.specs.Search.{firstBelow}
+use Rattle.lists.specs.Search.{firstBelow}
 use Rattle.field.specs.declared.Prime.{Prime}
 use Rattle.field.specs.Primes.{modulusOf}
 use Rattle.field.proofs.Moduli.{modulus-prime}

@@ -7,10 +7,10 @@ use native.Mathlib.Decide.{decLe}
 use native.Mathlib.Omega.{arith}
 use lib.Dec.{eqb}
 use borrow.Author.Tests.{eq-eqb, ne-eqb, eqb-true}
-use Rattle.row_search.specs.declared.Found.{Found}
-use Rattle.row_search.specs.declared.Found.the-variants.{At, Nothing}
-use Rattle.row_search.specs.Search.{firstBelow}
-use Rattle.row_search.proofs.FirstBelow.{found-only, found-passes, none-below, first-cong}
+use Rattle.lists.specs.declared.Found.{Found}
+use Rattle.lists.specs.declared.Found.the-variants.{At, Nothing}
+use Rattle.lists.specs.Search.{firstBelow}
+use Rattle.lists.proofs.FirstBelow.{found-only, found-passes, none-below, first-cong}
 use Rattle.reciprocal.specs.declared.OptionalReciprocal.the-variants.{Number, None}
 use Rattle.reciprocal.specs.Reciprocals.{reciprocalFound, reciprocalOf}
 use Rattle.lists.proofs.Truth.{clash}

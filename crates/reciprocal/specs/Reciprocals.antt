@@ -1,9 +1,9 @@
 -- Paper 02, item 2: the reciprocal of a number modulo p, or "no reciprocal".
 use Prim.Native.Nat.{ℕ, _*_, _%_}
 use lib.Dec.{eqb}
-use Rattle.row_search.specs.declared.Found.{Found}
-use Rattle.row_search.specs.declared.Found.the-variants.{At, Nothing}
-use Rattle.row_search.specs.Search.{firstBelow}
+use Rattle.lists.specs.declared.Found.{Found}
+use Rattle.lists.specs.declared.Found.the-variants.{At, Nothing}
+use Rattle.lists.specs.Search.{firstBelow}
 use Rattle.reciprocal.specs.declared.OptionalReciprocal.{OptionalReciprocal}
 use Rattle.reciprocal.specs.declared.OptionalReciprocal.the-variants.{Number, None}
 

@@ -1,2 +1,3 @@
 pub mod Settlement
 pub mod Settling
+pub mod Laws

@@ -9,23 +9,23 @@ use Rattle.lists.proofs.Truth.{clash}
 use Rattle.method.proofs.Problem.{None}
 use Rattle.method.proofs.LastTest.{candidate-is-answer, none-if-many-wrong}
 use Rattle.header.specs.Header.{boundsOf}
-use Rattle.word.proofs.Counts.{count-most}
+use Rattle.lists.proofs.Counting.{count-most}
 use Rattle.marked_rows.specs.Marks.{speaks, speakingCount}
 use Rattle.marked_rows.specs.Table.{jobPoints, jobWeights, jobValues}
 use Rattle.job.proofs.Facts.{WellFormedFacts, each-speaking}
-use Rattle.vector.specs.declared.Candidate.{Candidate}
-use Rattle.extension.specs.Extensions.{numeratorAt}
-use Rattle.candidate.specs.Candidates.{Table, candidateAfter}
+use Rattle.candidate.specs.declared.vector.Candidate.{Candidate}
+use Rattle.candidate.specs.Extensions.{numeratorAt}
+use Rattle.candidate.specs.Candidates.{RowsInRange, candidateAfter}
 use Rattle.problem.specs.Answers.{wrongCount, Within, Answer, Unsolvable}
-use Rattle.problem_meaning.proofs.Tables.{F, problem}
-use Rattle.problem_meaning.proofs.AnswerMeaning.{points-below, weights-below, usable, answer-means, means-answer, count-means}
+use Rattle.soundness.proofs.Tables.{F, problem}
+use Rattle.soundness.proofs.AnswerMeaning.{points-below, weights-below, usable, answer-means, means-answer, count-means}
 use Rattle.soundness.proofs.Candidates.{Good, Verdict}
-use Rattle.soundness.proofs.Verdicts.{verdict}
+use Rattle.soundness.proofs.Decided.{decided}
 
 module _ (s : List ℕ) {area : ℕ} (W : WellFormedFacts s area) where
-  pub table : Table (boundsOf s) (speakingCount s) (jobPoints s) (jobWeights s)
+  pub rows-in-range : RowsInRange (boundsOf s) (speakingCount s) (jobPoints s) (jobWeights s)
   unfolding speakingCount
-  table = record {
+  rows-in-range = record {
     points-below = points-below s W;
     weights-below = weights-below s W;
     speaking-enough = omega (arith, each-speaking W 0);
@@ -50,7 +50,7 @@ module _ (s : List ℕ) {area : ℕ} (W : WellFormedFacts s area) where
 
   -- no candidate: there is no answer
   pub unsolvable-early : last .solvable ≡ false → Unsolvable s
-  unsolvable-early e = by (verdict (boundsOf s) (speakingCount s) (jobPoints s) (jobWeights s) (jobValues s) (usable s W) (boundsOf s .outputs) (omega arith))
+  unsolvable-early e = by (decided (boundsOf s) (speakingCount s) (jobPoints s) (jobWeights s) (jobValues s) (usable s W) (boundsOf s .outputs) (omega arith))
     where
       by : Verdict (boundsOf s) (speakingCount s) (jobPoints s) (jobWeights s) (jobValues s) (usable s W) (boundsOf s .outputs) last → Unsolvable s
       by (inl G) = clash (sym (G .0) ∙ e)
@@ -58,7 +58,7 @@ module _ (s : List ℕ) {area : ℕ} (W : WellFormedFacts s area) where
 
   -- a candidate with few wrong rows is the answer
   pub solved : last .solvable ≡ true → wrongCount s numerators denominator ≤ boundsOf s .errors → Answer s numerators denominator
-  solved e few = by (verdict (boundsOf s) (speakingCount s) (jobPoints s) (jobWeights s) (jobValues s) (usable s W) (boundsOf s .outputs) (omega arith))
+  solved e few = by (decided (boundsOf s) (speakingCount s) (jobPoints s) (jobWeights s) (jobValues s) (usable s W) (boundsOf s .outputs) (omega arith))
     where
       by : Verdict (boundsOf s) (speakingCount s) (jobPoints s) (jobWeights s) (jobValues s) (usable s W) (boundsOf s .outputs) last → Answer s numerators denominator
       by (inl G) =
@@ -69,7 +69,7 @@ module _ (s : List ℕ) {area : ℕ} (W : WellFormedFacts s area) where
 
   -- a candidate with too many wrong rows: there is no answer
   pub unsolvable-late : last .solvable ≡ true → boundsOf s .errors < wrongCount s numerators denominator → Unsolvable s
-  unsolvable-late e many = by (verdict (boundsOf s) (speakingCount s) (jobPoints s) (jobWeights s) (jobValues s) (usable s W) (boundsOf s .outputs) (omega arith))
+  unsolvable-late e many = by (decided (boundsOf s) (speakingCount s) (jobPoints s) (jobWeights s) (jobValues s) (usable s W) (boundsOf s .outputs) (omega arith))
     where
       by : Verdict (boundsOf s) (speakingCount s) (jobPoints s) (jobWeights s) (jobValues s) (usable s W) (boundsOf s .outputs) last → Unsolvable s
       by (inl G) =

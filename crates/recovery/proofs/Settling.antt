@@ -16,19 +16,20 @@ use Rattle.poly.specs.Vectors.{coefficientsAt}
 use Rattle.header.specs.Header.{boundsOf}
 use Rattle.marked_rows.specs.Marks.{speakingCount}
 use Rattle.marked_rows.specs.Table.{jobPoints, jobWeights, jobValues}
-use Rattle.job.specs.declared.reading.Reading.{Reading}
+use Rattle.job.specs.declared.parsed_job.ParsedJob.{ParsedJob}
 use Rattle.job.specs.Refusals.{outcomeOf, WellFormed}
-use Rattle.job.specs.Reading.{readingOf}
+use Rattle.job.specs.ParsedJob.{parsedJobOf}
 use Rattle.job.proofs.Facts.{WellFormedFacts, well-formed-facts}
 use Rattle.job.proofs.Numbers.{Early, outcome-early}
-use Rattle.job.proofs.Laws.{reading-outcome}
-use Rattle.word.specs.Word.{wrongCountOf}
-use Rattle.answer.specs.Bytes.{answerBytes, overwritten}
-use Rattle.word.proofs.Words.{word-same}
-use Rattle.word.proofs.Marks.{count-of-word}
-use Rattle.judge.proofs.JobRows.{same-wrong}
+use Rattle.job.proofs.Laws.{parsed-outcome}
+use Rattle.row_mask.specs.Word.{wrongCountOf}
+use Rattle.answer.specs.Bytes.{answerBytes}
+use Rattle.lists.specs.Overwriting.{overwritten}
+use Rattle.row_mask.proofs.Words.{word-same}
+use Rattle.row_mask.proofs.SetBits.{count-of-word}
+use Rattle.wrong_rows.proofs.JobRows.{same-wrong}
 use Rattle.problem.specs.Answers.{wrongAt, wrongCount, Answer, Unsolvable, wordFor}
-use Rattle.problem_meaning.proofs.OnlyOne.{at-most-one}
+use Rattle.soundness.proofs.OnlyOne.{at-most-one}
 use Rattle.solver.specs.declared.Solution.{Solution}
 use Rattle.recovery.specs.Recovery.{RefusedEarly, Answered, RefusedUnsolvable, Settled}
 use Rattle.solver.specs.Solutions.{unsolvedSolution, wordBy, solutionFor}
@@ -61,10 +62,10 @@ module _ (s area : List ℕ) where
       by (inr (inl A)) o = A
       by (inr (inr U)) o = absurd (let same = ap (λ t. t .refusal) (U .report) in omega arith)
 
-  pub outcome-read : (r : Reading) → r ≡ readingOf s (length area) → r .outcome ≡ outcomeOf s (length area)
-  outcome-read r e = ap (λ t. t .outcome) e ∙ reading-outcome s (length area)
+  pub outcome-read : (r : ParsedJob) → r ≡ parsedJobOf s (length area) → r .outcome ≡ outcomeOf s (length area)
+  outcome-read r e = ap (λ t. t .outcome) e ∙ parsed-outcome s (length area)
 
-  pub settle-early : (r : Reading) → r ≡ readingOf s (length area) → (r .outcome ≡ Accepted → ⊥) → Settled s area (reportOf (r .outcome)) area
+  pub settle-early : (r : ParsedJob) → r ≡ parsedJobOf s (length area) → (r .outcome ≡ Accepted → ⊥) → Settled s area (reportOf (r .outcome)) area
   settle-early r e refused =
       settled (inl (record { malformed = λ wf. refused (outcome-read r e ∙ wf); report = ap reportOf (outcome-read r e); untouched = refl }))
 

@@ -10,7 +10,7 @@ use Rattle.format.specs.Outcomes.{reportOf, refusedReport, recoveredReport}
 use Rattle.format.specs.Bounds.{answerLengthOf}
 use Rattle.header.specs.Header.{boundsOf}
 use Rattle.job.specs.Refusals.{outcomeOf, WellFormed}
-use Rattle.answer.specs.Bytes.{overwritten}
+use Rattle.lists.specs.Overwriting.{overwritten}
 use Rattle.problem.specs.Reduced.{Same}
 use Rattle.problem.specs.Answers.{wrongCount, Answer, Unsolvable, recoveredBytes}
 

@@ -8,16 +8,16 @@ use format::Reason;
 pub fn recover(job: &[u8], area: &mut [u8]) -> Outcome
     ensures { λ r. ⌜ Settled (now (job .entry)) (now (area .entry)) (reportOf r) (now (area .exit)) ⌝ }
 {
-    let reading = job::read(job, area.len());
-    let verdict = reading.outcome;
-    let Outcome::Accepted = verdict else {
-        return verdict;
+    let parsed = job::read(job, area.len());
+    let decided = parsed.outcome;
+    let Outcome::Accepted = decided else {
+        return decided;
     };
-    let b = reading.bounds;
-    let points = reading.points;
-    let values = reading.values;
-    let weights = reading.weights;
-    let s = solver::solve(b, reading.speaking, points, weights, values);
+    let b = parsed.bounds;
+    let points = parsed.points;
+    let values = parsed.values;
+    let weights = parsed.weights;
+    let s = solver::solve(b, parsed.speaking, points, weights, values);
     if !s.solvable {
         return Outcome::Refused {
             reason: Reason::NoAnswer,

@@ -16,11 +16,11 @@ use Rattle.poly.specs.Coefficients.{Bounded, Stored}
 use Rattle.poly.specs.Operations.{lengthOf}
 use Rattle.poly.proofs.Lists.{bounded-mono}
 use Rattle.poly_meaning.proofs.Series.{series}
-use Rattle.reduced_meaning.proofs.Lists.{list-polynomial}
-use Rattle.division.proofs.Leading.{stored-bounded, length-stored}
+use Rattle.poly_meaning.proofs.Lists.{list-polynomial}
+use Rattle.euclid.proofs.Leading.{stored-bounded, length-stored}
 use Rattle.euclid.specs.Euclid.{gcdOf}
 use Rattle.euclid.proofs.Euclid.{gcd-stored, gcd-zero}
-use Rattle.euclid_meaning.proofs.Euclid.{gcd-means}
+use Rattle.poly_meaning.proofs.Euclid.{gcd-means}
 use Rattle.reduced.specs.CommonDivisor.{commonDivisorOf}
 
 -- a bound of what an array holds

@@ -1,4 +1,5 @@
 -- Reduced, decided: the leading coefficient of g is 1, and the greatest common divisor has length 1.
+use lib.ListN.{getD}
 use mathlib.Core.Path.{_≡_, ap, subst, _∙_}
 use mathlib.Core.List.{List}
 use Prim.Native.Nat.{ℕ, suc, _-_, _<_}
@@ -7,14 +8,14 @@ use Rattle.algebra.proofs.Bounds.{Below}
 use Rattle.algebra.proofs.Reduced.{reduced-of-ideal}
 use Rattle.field.proofs.Primality.{IsPrime}
 use Rattle.reciprocal.proofs.PrimeField.{residueRing, residueField}
-use Rattle.poly.specs.Coefficients.{at, Bounded, Stored}
+use Rattle.poly.specs.Coefficients.{Bounded, Stored}
 use Rattle.poly.specs.Operations.{lengthOf}
 use Rattle.poly.proofs.Lengths.{length-past, length-is, length-at-most}
 use Rattle.poly_meaning.proofs.Series.{series}
 use Rattle.poly_meaning.proofs.Degrees.{below-bounded, length-means}
-use Rattle.division.proofs.Leading.{stored-bounded}
+use Rattle.euclid.proofs.Leading.{stored-bounded}
 use Rattle.problem.specs.Reduced.{Coprime, LeadingOne, Reduced}
-use Rattle.reduced_meaning.proofs.Coprime.{coprime-means, means-coprime}
+use Rattle.poly_meaning.proofs.Coprime.{coprime-means, means-coprime}
 use Rattle.reduced.specs.CommonDivisor.{commonDivisorOf}
 use Rattle.reduced.proofs.CommonDivisors.{common-stored, common-nonzero, common-means, constant-ideal}
 
@@ -25,12 +26,12 @@ leading-length {g} M = length-is g (M .degree) (λ z. (let one = M .leading in o
 pub leading-nonzero : {g : List ℕ} → LeadingOne g → lengthOf g ≡ 0 → ⊥
 leading-nonzero M z = let l = leading-length M in omega arith
 
-pub leading-top : {g : List ℕ} → LeadingOne g → at g (lengthOf g - 1) ≡ 1
+pub leading-top : {g : List ℕ} → LeadingOne g → getD g (lengthOf g - 1) 0 ≡ 1
 leading-top {g} M =
     let e : lengthOf g - 1 ≡ M .degree = (let l = leading-length M in omega arith) in
-    ap (at g) e ∙ M .leading
+    ap (λ k. getD g k 0) e ∙ M .leading
 
-top-leading : {g : List ℕ} → (lengthOf g ≡ 0 → ⊥) → at g (lengthOf g - 1) ≡ 1 → LeadingOne g
+top-leading : {g : List ℕ} → (lengthOf g ≡ 0 → ⊥) → getD g (lengthOf g - 1) 0 ≡ 1 → LeadingOne g
 top-leading {g} nonzero e = record {
   degree = lengthOf g - 1;
   leading = e;
@@ -69,5 +70,5 @@ module _ (p : ℕ) (P : IsPrime p) (n : ℕ) (f : ℕ → List ℕ) {g : List �
   pub reduced-constant : Reduced p n f g → lengthOf (commonDivisorOf p f g n) ≡ 1
   reduced-constant r = coprime-constant (leading-nonzero (r .monic)) (r .coprime)
 
-  pub constant-reduced : (lengthOf g ≡ 0 → ⊥) → at g (lengthOf g - 1) ≡ 1 → lengthOf (commonDivisorOf p f g n) ≡ 1 → Reduced p n f g
+  pub constant-reduced : (lengthOf g ≡ 0 → ⊥) → getD g (lengthOf g - 1) 0 ≡ 1 → lengthOf (commonDivisorOf p f g n) ≡ 1 → Reduced p n f g
   constant-reduced nonzero top e = record { monic = top-leading nonzero top; coprime = constant-coprime e }

@@ -4,14 +4,9 @@ ghost use mathlib.Core.Bool.{true, _||_};
 ghost use mathlib.Core.Path.{_≡_};
 ghost use lib.Dec.{eqb, leb};
 ghost use lib.ListN.{getD};
-ghost use Rattle.word.specs.Word.{countBelow};
-ghost use Rattle.row_search.specs.Search.{firstBelow, anyBelow, Distinct};
-
-// What a search finds: the first row that it looks for, if there is one.
-pub enum Found {
-    At(u32),
-    Nothing,
-}
+ghost use Rattle.lists.specs.Counting.{countBelow};
+ghost use Rattle.lists.specs.Search.{firstBelow, anyBelow, Distinct};
+use lists::Found;
 
 // Whether one of the values from place `from` on is p or more.
 fn value_out_of_range(values: &[u32; 128], from: usize, outputs: usize, p: u32) -> bool

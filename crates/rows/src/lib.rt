@@ -6,8 +6,8 @@ ghost use Rattle.format.specs.Numbers.{numberFrom};
 ghost use Rattle.header.specs.Header.{headerLengthOf, boundsOf};
 ghost use Rattle.rows.specs.Steps.{rowOf, rowAt};
 use cursor::wide;
-use row_word::part;
-use row_word::word_from;
+use read_u64::part;
+use read_u64::read_u64;
 
 pub struct Row {
     pub point: u32,
@@ -27,7 +27,7 @@ fn read_long_row(bytes: &[u8], outputs: usize) -> Row
     requires { ⌜ (3 ≤ outputs) × (outputs ≤ 4) × (length (now bytes) ≡ 2 * (1 + outputs)) ⌝ }
     ensures { λ r. ⌜ r ≡ rowOf (now (bytes .entry)) outputs ⌝ }
 {
-    let word = word_from(bytes);
+    let word = read_u64(bytes);
     let point = part(word, 0);
     let mut values = [0u32; 4];
     values[0] = part(word, 1);

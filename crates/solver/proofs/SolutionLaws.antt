@@ -7,19 +7,19 @@ use native.Mathlib.Omega.{arith}
 use lib.ListN.{replicate}
 use borrow.Author.Tests.{lt-ltb, le-ltb}
 use Rattle.format.specs.declared.Bounds.{Bounds}
-use Rattle.format.specs.Bounds.{Storable, Sized}
+use Rattle.format.specs.Bounds.{FitsPolynomials, EnoughRows}
 use Rattle.poly.specs.declared.Poly.{Poly}
 use Rattle.poly.specs.Vectors.{zeroPoly, coefficientsAt}
 use Rattle.format.proofs.Sizes.{numerator-low, denominator-low}
-use Rattle.vector.specs.declared.Candidate.{Candidate}
-use Rattle.extension.specs.Extensions.{Fitting}
-use Rattle.word.specs.Word.{wrongCountOf}
+use Rattle.candidate.specs.declared.vector.Candidate.{Candidate}
+use Rattle.candidate.specs.Extensions.{Fitting}
+use Rattle.row_mask.specs.Word.{wrongCountOf}
 use Rattle.problem.specs.Answers.{Within}
 use Rattle.solver.specs.declared.Solution.{Solution}
 use Rattle.solver.specs.Solutions.{unsolvedSolution, wordBy, countedSolution, judgedSolution}
 
-pub storable : {b : Bounds} → Sized b → Storable b
-storable s = record {
+pub fits-polynomials : {b : Bounds} → EnoughRows b → FitsPolynomials b
+fits-polynomials s = record {
   few = s .outputs;
   denominator-low = (let h = denominator-low s in omega arith);
   numerators-low = λ i l. (let h = numerator-low s i in omega arith);

@@ -7,10 +7,10 @@ use lib.Dec.{ltb}
 use lib.ListN.{replicate}
 use Rattle.format.specs.declared.Bounds.{Bounds}
 use Rattle.poly.specs.Vectors.{zeroPoly, coefficientsAt}
-use Rattle.vector.specs.declared.Candidate.{Candidate}
+use Rattle.candidate.specs.declared.vector.Candidate.{Candidate}
 use Rattle.candidate.specs.Candidates.{candidateAfter}
-use Rattle.word.specs.Word.{wordOf, wrongCountOf}
-use Rattle.judge.specs.Rows.{wrongRowAt}
+use Rattle.row_mask.specs.Word.{wordOf, wrongCountOf}
+use Rattle.wrong_rows.specs.Rows.{wrongRowAt}
 use Rattle.solver.specs.declared.Solution.{Solution}
 
 -- there is no answer

@@ -1,7 +1,7 @@
 // The solver: from the table of a job's rows, the vector for which at most E rows are wrong, if there is one.
 ghost use mathlib.Core.Path.{_≡_};
-ghost use Rattle.format.specs.Bounds.{Sized};
-ghost use Rattle.candidate.specs.Candidates.{Table};
+ghost use Rattle.format.specs.Bounds.{EnoughRows};
+ghost use Rattle.candidate.specs.Candidates.{RowsInRange};
 ghost use Rattle.solver.specs.Solutions.{unsolvedSolution, solutionFor};
 use format::Bounds;
 use poly::Poly;
@@ -36,7 +36,7 @@ pub fn solve(
     weights: [u16; 32],
     values: [u32; 128],
 ) -> Solution
-    requires { ⌜ Sized b × Table b speaking points weights ⌝ }
+    requires { ⌜ EnoughRows b × RowsInRange b speaking points weights ⌝ }
     ensures { λ r. ⌜ r ≡ solutionFor b speaking points weights values ⌝ }
 {
     let c = candidate::after_outputs(b, speaking, points, weights, values);
@@ -45,8 +45,8 @@ pub fn solve(
     }
     let g = c.g;
     let f = c.f;
-    let word = judge::wrong_rows(b, points, weights, values, g, f);
-    let wrong = word::wrong_count(word);
+    let word = wrong_rows::wrong_rows(b, points, weights, values, g, f);
+    let wrong = row_mask::wrong_count(word);
     if b.errors < wrong as usize {
         return unsolved();
     }

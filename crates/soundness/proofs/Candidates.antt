@@ -15,15 +15,7 @@ use Rattle.algebra.proofs.LowestTerms.{LowestTerms, monic-degree}
 use Rattle.method.proofs.Solution.{Solves}
 use Rattle.method.proofs.Problem.{Problem, None, phiDegree}
 use Rattle.method.proofs.CrossProduct.{conditions, psiDegree}
-use Rattle.method.proofs.Outputs.{
-  Candidate as MethodCandidate,
-  Extends,
-  first-candidate,
-  next-candidate,
-  none-if-denominator-too-long,
-  none-if-new-numerator-too-long,
-  none-if-old-numerator-too-long,
-}
+use Rattle.method.proofs.Outputs.{Candidate as MethodCandidate, Extends, first-candidate, next-candidate, none-if-denominator-too-long, none-if-new-numerator-too-long, none-if-old-numerator-too-long}
 use Rattle.format.specs.declared.Bounds.{Bounds}
 use Rattle.format.specs.Bounds.{numeratorBoundOf, primeOf}
 use Rattle.poly.specs.declared.Poly.{Poly}
@@ -36,12 +28,12 @@ use Rattle.poly_meaning.proofs.Series.{series-below, constant-means}
 use Rattle.poly_meaning.proofs.Products.{product-means}
 use Rattle.poly_meaning.proofs.Degrees.{length-means, degree-length, below-bounded}
 use Rattle.format.proofs.Sizes.{numerator-low, denominator-low}
-use Rattle.problem_meaning.proofs.Tables.{P, R, F, poly, evaluation, problem, Usable, ample, capacity}
-use Rattle.vector.specs.declared.Candidate.{Candidate}
-use Rattle.extension.specs.Extensions.{Fitting, numeratorAt, raisedAt, raisedBelow, withOutput, extendedOf}
-use Rattle.vector.specs.Vector.{unsolvableCandidate}
-use Rattle.extension.proofs.Fittings.{bounded-raised, set-same, set-other, fitting-set}
-use Rattle.extension.proofs.ExtensionLaws.{raised-too-long, raised-fits}
+use Rattle.soundness.proofs.Tables.{P, R, F, poly, evaluation, problem, Usable, ample, capacity}
+use Rattle.candidate.specs.declared.vector.Candidate.{Candidate}
+use Rattle.candidate.specs.Extensions.{Fitting, numeratorAt, raisedAt, raisedBelow, withOutput, extendedOf}
+use Rattle.candidate.specs.Vector.{unsolvableCandidate}
+use Rattle.candidate.proofs.Fittings.{bounded-raised, set-same, set-other, fitting-set}
+use Rattle.candidate.proofs.ExtensionLaws.{raised-too-long, raised-fits}
 use Rattle.candidate.specs.Candidates.{startCandidate}
 use Rattle.candidate.proofs.CandidateLaws.{fitting-start}
 
@@ -67,9 +59,9 @@ module _ (b : Bounds) (speaking : ℕ) (points weights values : List ℕ) (U : U
   unfolding unsolvableCandidate
   no-answer i none = inr (refl, none)
 
-  pub start-verdict : Verdict 0 startCandidate
+  pub start-decided : Verdict 0 startCandidate
   unfolding startCandidate lengthOf lengthBelow
-  start-verdict = inl (
+  start-decided = inl (
     refl,
     record {
       degree = 0;
@@ -90,7 +82,7 @@ module _ (b : Bounds) (speaking : ℕ) (points weights values : List ℕ) (U : U
       (W : LowestTerms (F b) phi psi) {a h : List ℕ} (ea : W .numerator ≡ poly b a) (eh : W .denominator ≡ poly b h)
       (ba : Bounded p 32 a) (bh : Bounded p 32 h) (lh : lengthOf h ≡ suc (W .degree)) where
     i-small : i < 4
-    i-small = let n = U .sized .outputs in omega arith
+    i-small = let n = U .enough-rows .outputs in omega arith
 
     h-short : lengthOf h ≤ 32
     h-short = length-at-most h 32 (bh .within)
@@ -128,7 +120,7 @@ module _ (b : Bounds) (speaking : ℕ) (points weights values : List ℕ) (U : U
           ∙ ap (λ t. mulS (R b) (poly b t) (poly b h)) (H .rest j (omega arith))
         where
           fits : Dec (0 < l) → l + lengthOf h ≤ 33
-          fits (yes nonzero) = let e = short nonzero in let n = numerator-low (U .sized) j in omega arith
+          fits (yes nonzero) = let e = short nonzero in let n = numerator-low (U .enough-rows) j in omega arith
           fits (no none) = let e = h-short in omega arith
 
       raise-one : (0 < l → l + lengthOf h ≤ numeratorBoundOf b j + 2)
@@ -152,9 +144,9 @@ module _ (b : Bounds) (speaking : ℕ) (points weights values : List ℕ) (U : U
           bounded : Bounded p (numeratorBoundOf b j + 1) (raised .c)
           bounded = bounded-raised positive (bounded-length (H .fitting .numerators j)) (bounded-length bh) (λ nonzero. let e = short nonzero in omega arith)
 
-      raise-verdict : RaisedVerdict (suc j) (raisedAt b h j r)
+      raise-decided : RaisedVerdict (suc j) (raisedAt b h j r)
       unfolding unsolvableCandidate raised
-      raise-verdict = by (decLt 0 l) (decLt (numeratorBoundOf b j + 2) (l + lengthOf h))
+      raise-decided = by (decLt 0 l) (decLt (numeratorBoundOf b j + 2) (l + lengthOf h))
         where
           fits : (0 < l → l + lengthOf h ≤ numeratorBoundOf b j + 2) → RaisedVerdict (suc j) (raisedAt b h j r)
           fits short = subst (RaisedVerdict (suc j)) (raised-fits b h j r raised short refl) (inl (raise-one short))
@@ -177,7 +169,7 @@ module _ (b : Bounds) (speaking : ℕ) (points weights values : List ℕ) (U : U
       where
         by : (r : Candidate) → RaisedVerdict j r → RaisedVerdict (suc j) (cond (r .solvable) (raisedAt b h j r) r)
         by r (inl H) =
-            subst (λ t. RaisedVerdict (suc j) (cond t (raisedAt b h j r) r)) (sym (H .solvable)) (raise-verdict j (omega arith) r H)
+            subst (λ t. RaisedVerdict (suc j) (cond t (raisedAt b h j r) r)) (sym (H .solvable)) (raise-decided j (omega arith) r H)
         by r (inr none) = subst (λ t. RaisedVerdict (suc j) (cond t (raisedAt b h j r) r)) (sym (none .0)) (inr none)
 
     -- the new candidate, where everything fits
@@ -206,7 +198,7 @@ module _ (b : Bounds) (speaking : ℕ) (points weights values : List ℕ) (U : U
 
       g-means : poly b (product-g .c) ≡ mulS (R b) (poly b (c .g .c)) (poly b h)
       unfolding product-g
-      g-means = product-means p (P b) (bounded-length (G .fitting .denominator)) (bounded-length bh) (let n = denominator-low (U .sized) in omega arith)
+      g-means = product-means p (P b) (bounded-length (G .fitting .denominator)) (bounded-length bh) (let n = denominator-low (U .enough-rows) in omega arith)
 
       g-bounded : Bounded p (b .dg + 1) (product-g .c)
       unfolding product-g
@@ -246,18 +238,18 @@ module _ (b : Bounds) (speaking : ℕ) (points weights values : List ℕ) (U : U
     a-too-long long = none-if-new-numerator-too-long (F b) 32 T (ample b speaking points weights values U) (capacity b speaking points weights values U) li (G .candidate) S W
         (λ below. let n = length-at-most a (suc (numeratorBoundOf b i)) (below-bounded p (P b) ba (suc (numeratorBoundOf b i)) (subst (λ f. Below (R b) f (suc (numeratorBoundOf b i))) ea below) .within) in omega arith)
 
-    output-verdict : (r : Candidate) → lengthOf (c .g .c) + lengthOf h ≤ b .dg + 2 → lengthOf a ≤ numeratorBoundOf b i + 1
+    output-decided : (r : Candidate) → lengthOf (c .g .c) + lengthOf h ≤ b .dg + 2 → lengthOf a ≤ numeratorBoundOf b i + 1
         → RaisedVerdict i r → Verdict (suc i) (withOutput b i a (c .g .c) h r)
     unfolding withOutput last product-g
-    output-verdict r g-fits a-fits (inl H) =
+    output-decided r g-fits a-fits (inl H) =
         subst (λ t. Verdict (suc i) (cond t (new r H g-fits a-fits) r)) (sym (H .solvable)) (inl (H .solvable, good r H g-fits a-fits))
-    output-verdict r g-fits a-fits (inr none) =
+    output-decided r g-fits a-fits (inr none) =
         subst (λ t. Verdict (suc i) (cond t (record { solvable = r .solvable; g = record { c = productOf p (c .g .c) h }; f = set (r .f) i (record { c = a }) }) r))
         (sym (none .0)) (inr none)
 
-    pub extended-verdict : Verdict (suc i) (extendedOf b i a h c)
+    pub extended-decided : Verdict (suc i) (extendedOf b i a h c)
     unfolding extendedOf
-    extended-verdict = by (decLt (b .dg + 2) (lengthOf (c .g .c) + lengthOf h)) (decLt (numeratorBoundOf b i + 1) (lengthOf a))
+    extended-decided = by (decLt (b .dg + 2) (lengthOf (c .g .c) + lengthOf h)) (decLt (numeratorBoundOf b i + 1) (lengthOf a))
       where
         by : Dec (b .dg + 2 < lengthOf (c .g .c) + lengthOf h) → Dec (numeratorBoundOf b i + 1 < lengthOf a) → Verdict (suc i) (extendedOf b i a h c)
         by (yes long) y = rw (lt-ltb _ _ long) (no-answer (suc i) (g-too-long long))
@@ -267,4 +259,4 @@ module _ (b : Bounds) (speaking : ℕ) (points weights values : List ℕ) (U : U
         by (no g-fits) (no a-fits) =
             let short : lengthOf (c .g .c) + lengthOf h ≤ b .dg + 2 = omega arith in
             let fits : lengthOf a ≤ numeratorBoundOf b i + 1 = omega arith in
-            rw (le-ltb _ _ short, le-ltb _ _ fits) (output-verdict (raisedBelow b h i c) short fits (raise-all i (omega arith)))
+            rw (le-ltb _ _ short, le-ltb _ _ fits) (output-decided (raisedBelow b h i c) short fits (raise-all i (omega arith)))

@@ -1,4 +1,5 @@
 -- The fraction that the code makes is phi / psi in lowest terms.
+use lib.ListN.{getD}
 use mathlib.Core.Path.{_≡_, sym, _∙_, ap, subst}
 use mathlib.Core.Logic.{_≢_}
 use mathlib.Core.List.{List}
@@ -13,29 +14,29 @@ use Rattle.algebra.proofs.LowestTerms.{LowestTerms, lowest-terms-of, monic-degr
 use Rattle.reciprocal.specs.declared.OptionalReciprocal.the-variants.{Number}
 use Rattle.field.proofs.Primality.{IsPrime}
 use Rattle.reciprocal.proofs.PrimeField.{Residue, residue, residue-unit, mulR, residueRing, residueField}
-use Rattle.poly.specs.Coefficients.{at, Bounded, Stored}
+use Rattle.poly.specs.Coefficients.{Bounded, Stored}
 use Rattle.poly.specs.Operations.{lengthOf, scaledOf}
 use Rattle.poly.proofs.Lists.{bounded-mono}
 use Rattle.poly.proofs.Bounds.{bounded-scaled}
 use Rattle.poly_meaning.proofs.Series.{series, series-at, scaled-means}
 use Rattle.poly_meaning.proofs.Degrees.{length-means, degree-length, null-length}
-use Rattle.division.specs.Division.{quotientOf, degreeOf}
+use Rattle.euclid.specs.Division.{quotientOf, degreeOf}
 use Rattle.euclid.specs.Euclid.{gcdOf}
-use Rattle.division.proofs.Leading.{stored-bounded, length-stored, Divisor, divisor-of}
+use Rattle.euclid.proofs.Leading.{stored-bounded, length-stored, Divisor, divisor-of}
 use Rattle.euclid.proofs.Euclid.{gcd-stored, stored-quotient}
-use Rattle.euclid_meaning.proofs.Division.{exact-quotient}
-use Rattle.euclid_meaning.proofs.Euclid.{gcd-means}
-use Rattle.fraction.specs.LowestTerms.{unitOf, numeratorOf, denominatorOf}
+use Rattle.poly_meaning.proofs.Division.{exact-quotient}
+use Rattle.poly_meaning.proofs.Euclid.{gcd-means}
+use Rattle.fraction.specs.LowestTerms.{unitOf, reducedNumerator, reducedDenominator}
 use Rattle.fraction.proofs.Denominators.{divisor-nonzero, denominator-stored, quotient-divisor, unit-number, unit-inverts, numerator-scaled, denominator-scaled}
 
 -- what the two lists of the fraction are
 pub record FractionMeans (p : ℕ) (P : IsPrime p) (phi psi : List ℕ) : Type 0 where
   pub terms : LowestTerms (residueField p P) (series p P phi) (series p P psi)
-  pub numerator : terms .numerator ≡ series p P (numeratorOf p phi psi)
-  pub denominator : terms .denominator ≡ series p P (denominatorOf p phi psi)
-  pub numerator-bounded : Bounded p 32 (numeratorOf p phi psi)
-  pub denominator-bounded : Bounded p 32 (denominatorOf p phi psi)
-  pub denominator-length : lengthOf (denominatorOf p phi psi) ≡ suc (terms .degree)
+  pub numerator : terms .numerator ≡ series p P (reducedNumerator p phi psi)
+  pub denominator : terms .denominator ≡ series p P (reducedDenominator p phi psi)
+  pub numerator-bounded : Bounded p 32 (reducedNumerator p phi psi)
+  pub denominator-bounded : Bounded p 32 (reducedDenominator p phi psi)
+  pub denominator-length : lengthOf (reducedDenominator p phi psi) ≡ suc (terms .degree)
 
 module _ (p : ℕ) (P : IsPrime p) where
   abbrev R : Ring
@@ -93,7 +94,7 @@ module _ (p : ℕ) (P : IsPrime p) where
 
     -- the leading coefficient of the cofactor
     k : Residue p P
-    k = residue p P (at h m)
+    k = residue p P (getD h m 0)
 
     k-is : k ≡ C .g' m
     unfolding k
@@ -112,7 +113,7 @@ module _ (p : ℕ) (P : IsPrime p) where
 
     inverts : mulR p P k i ≡ residue p P 1
     unfolding degreeOf k m i
-    inverts = residue-unit p P unit (at h m) (unit-inverts P sa sb nonzero unit-is)
+    inverts = residue-unit p P unit (getD h m 0) (unit-inverts P sa sb nonzero unit-is)
 
     -- b is a times the unit
     scaled-by-unit : {a b : List ℕ} {s : Series R} → Stored p a → series p P a ≡ s → b ≡ scaledOf p unit a → scaleS R i s ≡ series p P b
@@ -123,10 +124,10 @@ module _ (p : ℕ) (P : IsPrime p) where
     bounded-by-unit : {a b : List ℕ} → Stored p a → b ≡ scaledOf p unit a → Bounded p 32 b
     bounded-by-unit st scaled = rw scaled (bounded-mono (bounded-scaled (stored-bounded st) unit (let two = P .two in omega arith)) (length-stored st))
 
-    numerator-is : numeratorOf p phi psi ≡ scaledOf p unit (quotientOf p phi c)
+    numerator-is : reducedNumerator p phi psi ≡ scaledOf p unit (quotientOf p phi c)
     numerator-is = numerator-scaled p phi psi unit-is
 
-    denominator-is : denominatorOf p phi psi ≡ scaledOf p unit h
+    denominator-is : reducedDenominator p phi psi ≡ scaledOf p unit h
     denominator-is = denominator-scaled p phi psi unit-is
 
     W : LowestTerms F (series p P phi) (series p P psi)

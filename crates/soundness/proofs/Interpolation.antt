@@ -8,80 +8,24 @@ use native.Mathlib.Numerals.{add-one}
 use native.Mathlib.Decide.{decLe, ℕ-discrete}
 use native.Mathlib.Omega.{arith}
 use borrow.Author.Tests.{eq-eqb, ne-eqb}
-use lib.ListN.{length}
+use lib.ListN.{getD, length}
 use Rattle.algebra.proofs.Ring.{Ring, neg-mul}
 use Rattle.algebra.proofs.Field.{Field}
 use Rattle.algebra.proofs.Series.{Series, constS, nullS}
 use Rattle.method.proofs.PairLaws.{combine}
-use Rattle.method.proofs.Interpolation.{
-  Condition,
-  Pair as SeriesPair,
-  discrepancy,
-  discrepancy-at,
-  firstPair,
-  secondPair,
-  advanced,
-  combined,
-  Invariant,
-  start-invariant,
-  keep-both,
-  advance-first,
-  advance-second,
-  combine-second,
-  combine-first,
-  Idle,
-  dec-idle,
-  idle-discrepancy,
-  activeBelow,
-  activeBelow-zero,
-  activeBelow-idle,
-  activeBelow-active,
-}
+use Rattle.method.proofs.Interpolation.{Condition, Pair as SeriesPair, discrepancy, discrepancy-at, firstPair, secondPair, advanced, combined, Invariant, start-invariant, keep-both, advance-first, advance-second, combine-second, combine-first, Idle, dec-idle, idle-discrepancy, activeBelow, activeBelow-zero, activeBelow-idle, activeBelow-active}
 use Rattle.method.proofs.Solution.{Solves, first-solves, second-solves}
 use Rattle.field.proofs.Primality.{IsPrime}
 use Rattle.reciprocal.proofs.PrimeField.{residue, residue-add, residue-mul, residue-neg, residueRing, residueField}
-use Rattle.poly.specs.Coefficients.{at}
 use Rattle.poly.specs.Operations.{valueOf, timesLinearOf, combinationOf}
 use Rattle.poly.specs.Vectors.{onePoly, zeroPoly}
 use Rattle.lists.proofs.Tabulated.{length-tabulate}
 use Rattle.poly.proofs.Bounds.{bounded-times-linear, bounded-combination}
-use Rattle.poly_meaning.proofs.Series.{
-  series,
-  residue-mod,
-  residue-zero,
-  zeros-means,
-  constant-means,
-  times-linear-means,
-  combination-means,
-  value-means-bounded,
-}
-use Rattle.word.specs.Word.{countBelow, flagOf}
+use Rattle.poly_meaning.proofs.Series.{series, residue-mod, residue-zero, zeros-means, constant-means, times-linear-means, combination-means, value-means-bounded}
+use Rattle.lists.specs.Counting.{countBelow, oneIf}
 use Rattle.pairs.specs.declared.Pair.{Pair}
-use Rattle.pairs.specs.Pairs.{
-  Pairs,
-  PairBounded,
-  activeAt,
-  activeCount,
-  discrepancyOf,
-  advancedOf,
-  combinedOf,
-  pairsStep,
-  startOf,
-  pairsAfter,
-  smallerOf,
-  solutionOf,
-}
-use Rattle.pairs.proofs.PairLaws.{
-  pair-mono,
-  step-both,
-  step-second,
-  step-first,
-  step-clear-second,
-  step-clear-first,
-  reached-start,
-  smaller-first,
-  smaller-second,
-}
+use Rattle.pairs.specs.Pairs.{Pairs, PairBounded, activeAt, activeCount, discrepancyOf, advancedOf, combinedOf, pairsStep, startOf, pairsAfter, smallerOf, solutionOf}
+use Rattle.pairs.proofs.PairLaws.{pair-mono, step-both, step-second, step-first, step-clear-second, step-clear-first, reached-start, smaller-first, smaller-second}
 
 module _ (p : ℕ) (P : IsPrime p) where
   abbrev R : Ring
@@ -165,34 +109,34 @@ module _ (p : ℕ) (P : IsPrime p) where
   -- the conditions of the rows
   module _ (points weights z : List ℕ) where
     abbrev pub conditionAt : ℕ → Condition (residueRing p P)
-    conditionAt l = condition (at weights l) (at points l) (at z l)
+    conditionAt l = condition (getD weights l 0) (getD points l 0) (getD z l 0)
 
     -- a row asks something exactly if its condition is active
-    module _ (weights-below : (k : ℕ) → at weights k < 2) (z-below : (k : ℕ) → at z k < p) where
+    module _ (weights-below : (k : ℕ) → getD weights k 0 < 2) (z-below : (k : ℕ) → getD z k 0 < p) where
       pub active-means : (k : ℕ) → activeBelow (residueField p P) conditionAt k ≡ activeCount weights z k
       unfolding countBelow
       active-means zero = activeBelow-zero F conditionAt
-      active-means (suc k) = by (ℕ-discrete (at weights k) 0) (ℕ-discrete (at z k) 0) (active-means k)
+      active-means (suc k) = by (ℕ-discrete (getD weights k 0) 0) (ℕ-discrete (getD z k 0) 0) (active-means k)
         where
-          low : at weights k < p
+          low : getD weights k 0 < p
           low = let w = weights-below k in let two = P .two in omega arith
 
-          by : Dec (at weights k ≡ 0) → Dec (at z k ≡ 0) → activeBelow F conditionAt k ≡ activeCount weights z k
-              → activeBelow F conditionAt (suc k) ≡ activeCount weights z k + flagOf (activeAt weights z k)
+          by : Dec (getD weights k 0 ≡ 0) → Dec (getD z k 0 ≡ 0) → activeBelow F conditionAt k ≡ activeCount weights z k
+              → activeBelow F conditionAt (suc k) ≡ activeCount weights z k + oneIf (activeAt weights z k)
           by (yes w) (yes e) same =
               let idle = activeBelow-idle F conditionAt k (ap (residue p P) w, ap (residue p P) e) in
-              let flag : flagOf (activeAt weights z k) ≡ 0 = rw (eq-eqb _ _ w, eq-eqb _ _ e) refl in
+              let flag : oneIf (activeAt weights z k) ≡ 0 = rw (eq-eqb _ _ w, eq-eqb _ _ e) refl in
               omega arith
           by (yes w) (no ne) same =
               let active = activeBelow-active F conditionAt k (λ idle. ne (residue-zero p P _ (z-below k) (idle .1))) in
-              let flag : flagOf (activeAt weights z k) ≡ 1 = rw (eq-eqb _ _ w, ne-eqb _ _ ne) refl in
+              let flag : oneIf (activeAt weights z k) ≡ 1 = rw (eq-eqb _ _ w, ne-eqb _ _ ne) refl in
               omega arith
           by (no nw) e same =
               let active = activeBelow-active F conditionAt k (λ idle. nw (residue-zero p P _ low (idle .0))) in
-              let flag : flagOf (activeAt weights z k) ≡ 1 = rw (ne-eqb _ _ nw) refl in
+              let flag : oneIf (activeAt weights z k) ≡ 1 = rw (ne-eqb _ _ nw) refl in
               omega arith
 
-  module _ (A B : ℕ) (points weights z : List ℕ) (points-below : (k : ℕ) → at points k < p) (z-below : (k : ℕ) → at z k < p) where
+  module _ (A B : ℕ) (points weights z : List ℕ) (points-below : (k : ℕ) → getD points k 0 < p) (z-below : (k : ℕ) → getD z k 0 < p) where
     abbrev here : ℕ → Condition R
     here = conditionAt points weights z
 
@@ -233,32 +177,32 @@ module _ (p : ℕ) (P : IsPrime p) where
     -- one row: d0 and d1 are the discrepancies
     module _ (k : ℕ) (fits : k + 1 < 32) (s : Pairs) (M : Means k s) where
       abbrev x : ℕ
-      x = at points k
+      x = getD points k 0
 
       abbrev c : ℕ
-      c = at weights k
+      c = getD weights k 0
 
       abbrev d0 : ℕ
-      d0 = discrepancyOf p c x (at z k) (s .first)
+      d0 = discrepancyOf p c x (getD z k 0) (s .first)
 
       abbrev d1 : ℕ
-      d1 = discrepancyOf p c x (at z k) (s .second)
+      d1 = discrepancyOf p c x (getD z k 0) (s .second)
 
-      means : (t : Pair) → PairBounded p (k + 1) t → residue p P (discrepancyOf p c x (at z k) t) ≡ discrepancy R 32 (here k) (meaning t)
-      means t b = discrepancy-means c x (at z k) t (z-below k) b (omega arith)
+      means : (t : Pair) → PairBounded p (k + 1) t → residue p P (discrepancyOf p c x (getD z k 0) t) ≡ discrepancy R 32 (here k) (meaning t)
+      means t b = discrepancy-means c x (getD z k 0) t (z-below k) b (omega arith)
 
-      small : (t : Pair) → discrepancyOf p c x (at z k) t < p
+      small : (t : Pair) → discrepancyOf p c x (getD z k 0) t < p
       unfolding discrepancyOf
       small t = mod-lt _ (let two = P .two in omega arith)
 
-      null : (t : Pair) → PairBounded p (k + 1) t → discrepancyOf p c x (at z k) t ≡ 0 → discrepancy R 32 (here k) (meaning t) ≡ residue p P 0
+      null : (t : Pair) → PairBounded p (k + 1) t → discrepancyOf p c x (getD z k 0) t ≡ 0 → discrepancy R 32 (here k) (meaning t) ≡ residue p P 0
       null t b e = sym (means t b) ∙ ap (residue p P) e
 
-      nonnull : (t : Pair) → (discrepancyOf p c x (at z k) t ≡ 0 → ⊥) → residue p P (discrepancyOf p c x (at z k) t) ≢ residue p P 0
+      nonnull : (t : Pair) → (discrepancyOf p c x (getD z k 0) t ≡ 0 → ⊥) → residue p P (discrepancyOf p c x (getD z k 0) t) ≢ residue p P 0
       nonnull t n e = n (residue-zero p P _ (small t) e)
 
       -- a row where a pair has a discrepancy is active, and no row takes from the count
-      active-if : (t : Pair) → PairBounded p (k + 1) t → (discrepancyOf p c x (at z k) t ≡ 0 → ⊥) → suc (active k) ≡ active (suc k)
+      active-if : (t : Pair) → PairBounded p (k + 1) t → (discrepancyOf p c x (getD z k 0) t ≡ 0 → ⊥) → suc (active k) ≡ active (suc k)
       active-if t b n =
           sym (activeBelow-active F here k (λ idle. n (residue-zero p P _ (small t) (means t b ∙ idle-discrepancy R 32 (here k) (meaning t) idle))))
 
@@ -273,7 +217,7 @@ module _ (p : ℕ) (P : IsPrime p) where
       counted : {m n : SeriesPair R} → suc (active k) ≡ active (suc k) → Invariant R A B 32 here (suc k) (suc (active k)) m n → Invariant R A B 32 here (suc k) (active (suc k)) m n
       counted {m} {n} e I = subst (λ a. Invariant R A B 32 here (suc k) a m n) e I
 
-      step-means : Means (suc k) (pairsStep p c x (at z k) s)
+      step-means : Means (suc k) (pairsStep p c x (getD z k 0) s)
       step-means = by (ℕ-discrete d0 0) (ℕ-discrete d1 0) (decLe (s .first .e) (s .second .e))
         where
           b0 : PairBounded p (k + 1) (s .first)
@@ -285,7 +229,7 @@ module _ (p : ℕ) (P : IsPrime p) where
           risen : {t : Pair} → PairBounded p (k + 1) t → Reads (suc k + 1) (advancedOf p x t) (advanced R (residue p P x) (meaning t))
           risen b = rises k fits x (points-below k) b
 
-          by : Dec (d0 ≡ 0) → Dec (d1 ≡ 0) → Dec (s .first .e ≤ s .second .e) → Means (suc k) (pairsStep p c x (at z k) s)
+          by : Dec (d0 ≡ 0) → Dec (d1 ≡ 0) → Dec (s .first .e ≤ s .second .e) → Means (suc k) (pairsStep p c x (getD z k 0) s)
           by (yes z0) (yes z1) le =
               subst (Means (suc k)) (step-both p x d0 d1 s z0 z1)
               (reads-means (suc k) (stays k fits (M .one)) (stays k fits (M .two)) (keep-both F A B 32 (M .invariant) (null (s .first) b0 z0) (null (s .second) b1 z1) active-grows))

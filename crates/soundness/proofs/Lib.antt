@@ -1,4 +1,7 @@
+pub mod Tables
+pub mod AnswerMeaning
+pub mod OnlyOne
 pub mod Interpolation
 pub mod Fraction
 pub mod Candidates
-pub mod Verdicts
+pub mod Decided

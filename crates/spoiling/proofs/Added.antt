@@ -10,8 +10,8 @@ use lib.ListN.{getD}
 use Rattle.lists.specs.Tabulated.{tabulate}
 use Rattle.lists.proofs.Tabulated.{at-tabulate-all}
 use Rattle.lists.proofs.Truth.{clash}
-use Rattle.row_search.specs.declared.Found.{Found}
-use Rattle.row_search.proofs.FirstBelow.{first-cong}
+use Rattle.lists.specs.declared.Found.{Found}
+use Rattle.lists.proofs.FirstBelow.{first-cong}
 use Rattle.spoiling.specs.Draws.{drawn, topBits}
 use Rattle.spoiling.specs.Spoiling.{numberIn, untakenFrom, chosenRow, amountOf, addedBy, spoiledBy}
 

@@ -7,12 +7,12 @@ use native.Mathlib.Numerals.{add-one}
 use native.Mathlib.Omega.{arith}
 use borrow.Author.Tests.{eqb-true, ne-eqb, not-true, not-false}
 use lib.Dec.{eqb}
-use Rattle.row_search.specs.declared.Found.{Found}
-use Rattle.row_search.specs.declared.Found.the-variants.{At, Nothing}
-use Rattle.row_search.specs.Search.{firstBelow}
-use Rattle.row_search.proofs.FirstBelow.{none-passes, found-passes}
-use Rattle.word.specs.Word.{flagOf, countBelow}
-use Rattle.word.proofs.Counts.{count-change}
+use Rattle.lists.specs.declared.Found.{Found}
+use Rattle.lists.specs.declared.Found.the-variants.{At, Nothing}
+use Rattle.lists.specs.Search.{firstBelow}
+use Rattle.lists.proofs.FirstBelow.{none-passes, found-passes}
+use Rattle.lists.specs.Counting.{oneIf, countBelow}
+use Rattle.lists.proofs.Counting.{count-change}
 use Rattle.spoiling.specs.Draws.{drawn, topBits}
 use Rattle.spoiling.specs.Spoiling.{numberIn, untakenFrom, chosenRow, amountOf, addedBy, spoiledBy}
 use Rattle.spoiling.proofs.Added.{chosen-row-below, added-chosen, added-other, amount-positive}
@@ -26,7 +26,7 @@ count-none (suc n) = omega (arith, count-none n)
 count-full : (n : ℕ) (t : ℕ → Bool) → ((i : ℕ) → i < n → t i ≡ true) → countBelow n t ≡ n
 unfolding countBelow
 count-full zero t all = refl
-count-full (suc n) t all = ap₂ (λ m b. m + flagOf b) (count-full n t (λ i l. all i (omega arith))) (all n (omega arith)) ∙ add-one n
+count-full (suc n) t all = ap₂ (λ m b. m + oneIf b) (count-full n t (λ i l. all i (omega arith))) (all n (omega arith)) ∙ add-one n
 
 -- from row d every row is reached
 reached : (L d i : ℕ) → d < L → i < L → (d + (i + (L - d)) % L) % L ≡ i
@@ -64,7 +64,7 @@ module _ (p L start : ℕ) where
       let more =
       count-change (spoiledBy p L start (suc w)) (spoiledBy p L start w) L row (chosen-row-below L (addedBy p L start w) word (omega arith))
       (λ r l other. ap (λ (x : ℕ). not (eqb x 0)) (added-other p L start w r other)) (ap (λ (x : ℕ). not (eqb x 0)) free) in
-      let here = ap flagOf (ap (λ (x : ℕ). not (eqb x 0)) (added-chosen p L start w row refl) ∙ ap not amount) in
+      let here = ap oneIf (ap (λ (x : ℕ). not (eqb x 0)) (added-chosen p L start w row refl) ∙ ap not amount) in
       omega arith
 
   -- w spoilings spoil exactly w of the L rows

@@ -2,7 +2,7 @@
 use mathlib.Core.Path.{_≡_, refl}
 use mathlib.Core.List.{[], _∷_}
 use Rattle.lists.specs.Tabulated.{tabulate}
-use Rattle.row_search.specs.Search.{firstBelow}
+use Rattle.lists.specs.Search.{firstBelow}
 use Rattle.spoiling.specs.Draws.{drawn, topBits}
 use Rattle.spoiling.specs.Spoiling.{untakenFrom, chosenRow, addedBy}
 

@@ -6,9 +6,9 @@ use native.Mathlib.Omega.{arith}
 use lib.ListN.{length, getD, length-append}
 use Rattle.format.specs.Numbers.{wordFrom}
 use Rattle.format.specs.declared.Bounds.{Bounds}
-use Rattle.format.specs.Bounds.{Storable, numeratorBoundOf}
+use Rattle.format.specs.Bounds.{FitsPolynomials, numeratorBoundOf}
 use Rattle.answer.specs.Bytes.{numeratorStart}
-use Rattle.word.specs.Word.{marked}
+use Rattle.row_mask.specs.Word.{isSet}
 use Rattle.text.specs.Drafts.{textRoom}
 use Rattle.text.specs.Decimal.{decimalOf, itemOf}
 use Rattle.text.specs.Lines.{rowItems, coefficientFrom, degreeWithin, itemsBelow, outputLineFrom, outputLines}
@@ -49,7 +49,7 @@ module _ (s : List ℕ) (bytes : (k : ℕ) → getD s k 0 < 256) where
       let line = line-items (coefficientFrom s start) (coefficient-low start) bound h in
       simp length-append (omega arith)
 
-  output-lines : (b : Bounds) → Storable b → (n : ℕ) → n ≤ b .outputs → length (outputLines b s n) ≤ 195 * n
+  output-lines : (b : Bounds) → FitsPolynomials b → (n : ℕ) → n ≤ b .outputs → length (outputLines b s n) ≤ 195 * n
   unfolding outputLines
   output-lines b fits zero few = omega arith
   output-lines b fits (suc i) few =
@@ -62,11 +62,11 @@ module _ (s : List ℕ) (bytes : (k : ℕ) → getD s k 0 < 256) where
         output-line i start bound (omega (arith, fits .few)) (omega (arith, fits .numerators-low i few)),
       )
 
-  pub recovered-short : (b : Bounds) → Storable b → (wrong margin : ℕ) → wrong < 2 ^ 32 → margin < 2 ^ 32 → length (recoveredText b wrong margin s) < textRoom
+  pub recovered-short : (b : Bounds) → FitsPolynomials b → (wrong margin : ℕ) → wrong < 2 ^ 32 → margin < 2 ^ 32 → length (recoveredText b wrong margin s) < textRoom
   recovered-short b fits wrong margin low low-margin =
       let count = decimal-few wrong 9 (omega arith) in
       let last = decimal-few margin 9 (omega arith) in
-      let rows = row-items 32 0 (marked (wordFrom s)) (omega arith) in
+      let rows = row-items 32 0 (isSet (wordFrom s)) (omega arith) in
       let line = line-items (coefficientFrom s 4) (coefficient-low 4) (b .dg) (omega (arith, fits .denominator-low)) in
       let outputs = output-lines b fits (b .outputs) (omega arith) in
       let few = fits .few in

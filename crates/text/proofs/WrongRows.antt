@@ -9,9 +9,10 @@ use native.Mathlib.Omega.{arith}
 use lib.Dec.{eqb, lit≤}
 use lib.Count.{leading-top}
 use borrow.Author.Tests.{eq-eqb, ne-eqb}
-use Rattle.word.specs.Word.{flagOf, wordOf, firstFrom, marked, firstWrongOf}
-use Rattle.word.proofs.Words.{word-same, bit-of-row}
-use Rattle.word.proofs.Marks.{word-of-marks, leading-marked}
+use Rattle.lists.specs.Counting.{oneIf}
+use Rattle.row_mask.specs.Word.{wordOf, firstFrom, isSet, firstWrongOf}
+use Rattle.row_mask.proofs.Words.{word-same, bit-of-row}
+use Rattle.row_mask.proofs.SetBits.{word-of-bits, leading-set}
 use Rattle.text.specs.Decimal.{itemOf}
 use Rattle.text.specs.Lines.{rowItems}
 
@@ -87,15 +88,15 @@ word-without (suc n) f wrong is low =
     let earlier = word-without n f wrong is below in
     rw (without-others wrong f n (λ q. omega arith), earlier) (omega arith)) (eq-or-lt-of-le (le-of-suc-le-suc low))
 
-flag-back : (flag : Bool) → eqb (flagOf flag) 1 ≡ flag
+flag-back : (flag : Bool) → eqb (oneIf flag) 1 ≡ flag
 flag-back true = refl
 flag-back false = refl
 
 -- a word marks the rows that it was made of
-marked-word : (wrong : ℕ → Bool) (r : ℕ) → r < 32 → marked (wordOf 32 wrong) r ≡ wrong r
-marked-word wrong r low = ap (λ d. eqb d 1) (bit-of-row 32 wrong r (lit≤ tt) low) ∙ flag-back (wrong r)
+set-word : (wrong : ℕ → Bool) (r : ℕ) → r < 32 → isSet (wordOf 32 wrong) r ≡ wrong r
+set-word wrong r low = ap (λ d. eqb d 1) (bit-of-row 32 wrong r (lit≤ tt) low) ∙ flag-back (wrong r)
 
-pub no-rows : rowItems 32 0 (marked 0) ≡ []
+pub no-rows : rowItems 32 0 (isSet 0) ≡ []
 unfolding rowItems
 no-rows = refl
 
@@ -104,20 +105,20 @@ module _ (word f : ℕ) (small : word < 2 ^ 32) (some : word ≡ 0 → ⊥) (fir
   pub first-exists : f < 32
   first-exists =
       let top = leading-top 32 word (omega arith) small in
-      omega (arith, top .1, leading-marked word small)
+      omega (arith, top .1, leading-set word small)
 
-  cleared : word ≡ wordOf 32 (without (marked word) f) + 2 ^ (31 - f)
+  cleared : word ≡ wordOf 32 (without (isSet word) f) + 2 ^ (31 - f)
   cleared =
-      sym (word-of-marks word small)
-      ∙ word-without 32 f (marked word) (first-is-wrong 32 0 f (marked word) (sym first) first-exists) first-exists
+      sym (word-of-bits word small)
+      ∙ word-without 32 f (isSet word) (first-is-wrong 32 0 f (isSet word) (sym first) first-exists) first-exists
 
   pub bit-within : 2 ^ (31 - f) ≤ word
   bit-within = omega (arith, cleared)
 
-  pub next-rows : rowItems 32 0 (marked word) ≡ itemOf f ++ rowItems 32 0 (marked (word - 2 ^ (31 - f)))
+  pub next-rows : rowItems 32 0 (isSet word) ≡ itemOf f ++ rowItems 32 0 (isSet (word - 2 ^ (31 - f)))
   next-rows =
-      let others = without (marked word) f in
+      let others = without (isSet word) f in
       let rest : word - 2 ^ (31 - f) ≡ wordOf 32 others = omega (arith, cleared) in
-      first-row 32 0 f (marked word) (sym first) first-exists
+      first-row 32 0 f (isSet word) (sym first) first-exists
       ∙ ap (λ l. itemOf f ++ l)
-      (rows-same 32 0 others (marked (wordOf 32 others)) (λ j low high. sym (marked-word others j (omega arith))) ∙ ap (λ w. rowItems 32 0 (marked w)) (sym rest))
+      (rows-same 32 0 others (isSet (wordOf 32 others)) (λ j low high. sym (set-word others j (omega arith))) ∙ ap (λ w. rowItems 32 0 (isSet w)) (sym rest))

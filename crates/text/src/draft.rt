@@ -3,7 +3,7 @@ ghost use Prim.Native.Nat.{ℕ, _<_, _≤_};
 ghost use mathlib.Core.Path.{_≡_};
 ghost use mathlib.Core.List.{[], _∷_};
 ghost use lib.ListN.{length};
-ghost use Rattle.answer.specs.Bytes.{overwritten};
+ghost use Rattle.lists.specs.Overwriting.{overwritten};
 ghost use Rattle.text.specs.Drafts.{textRoom, held, extended, Spells};
 ghost use Rattle.text.specs.Decimal.{digitsWithin, itemOf};
 

@@ -6,9 +6,9 @@ ghost use Prim.Native.Nat.{_≤_};
 ghost use mathlib.Core.Path.{_≡_};
 ghost use mathlib.Core.Bool.{true};
 ghost use lib.ListN.{length};
-ghost use Rattle.format.specs.Bounds.{Storable};
+ghost use Rattle.format.specs.Bounds.{FitsPolynomials};
 ghost use Rattle.text.specs.Drafts.{textRoom, Spells};
-ghost use Rattle.text.specs.Text.{isStorable, recoveredText, refusedText, textOf, writtenOf, bufferAfter};
+ghost use Rattle.text.specs.Text.{fitsOf, recoveredText, refusedText, textOf, writtenOf, bufferAfter};
 use draft::Draft;
 use draft::copy_out;
 use draft::empty;
@@ -22,7 +22,7 @@ use lines::put_margin;
 use lines::put_outputs;
 use lines::put_polynomial;
 use lines::put_rows;
-use lines::word_from;
+use lines::read_word;
 
 // How many bytes the text has, or why there is none.
 pub enum Written {
@@ -33,8 +33,8 @@ pub enum Written {
     Malformed,
 }
 
-fn storable(b: Bounds) -> bool
-    ensures { λ r. ⌜ r ≡ isStorable b ⌝ }
+fn bounds_fit(b: Bounds) -> bool
+    ensures { λ r. ⌜ r ≡ fitsOf b ⌝ }
 {
     if 4 < b.outputs {
         return false;
@@ -47,12 +47,12 @@ fn storable(b: Bounds) -> bool
 
 // The text of an answer with this margin whose bytes stand in the area.
 fn recovered(b: Bounds, wrong: u32, margin: u32, area: &[u8]) -> Draft
-    requires { ⌜ Storable b ⌝ }
+    requires { ⌜ FitsPolynomials b ⌝ }
     ensures { λ r. ⌜ Spells r (recoveredText b wrong margin (now (area .entry))) ⌝ }
 {
     let named = put_label(empty(), b"recovered ");
     let first = put_byte(put_decimal(named, wrong), b'\n');
-    let listing = put_rows(put_label(first, b"wrong"), word_from(area));
+    let listing = put_rows(put_label(first, b"wrong"), read_word(area));
     let second = put_byte(listing, b'\n');
     let dg = b.dg;
     let third = put_polynomial(put_label(second, b"g"), area, 4, dg);
@@ -69,14 +69,14 @@ fn refused(number: u32, row: u32) -> Draft
 
 // An accepted job has no text yet.
 fn text_of(b: Bounds, outcome: Outcome, margin: u32, area: &[u8]) -> Draft
-    requires { ⌜ Storable b ⌝ }
+    requires { ⌜ FitsPolynomials b ⌝ }
     ensures { λ r. ⌜ Spells r (textOf b outcome margin (now (area .entry))) ⌝ }
 {
     match outcome {
         Outcome::Accepted => empty(),
         Outcome::Recovered { bytes: _, wrong } => recovered(b, wrong, margin, area),
         Outcome::Refused { reason, row } => {
-            let number = format::number(reason);
+            let number = format::refusal_number(reason);
             refused(number, row)
         }
     }
@@ -94,9 +94,9 @@ pub fn write_text(
     ensures { λ r.
         ⌜ (r ≡ writtenOf bounds outcome margin (now (area .entry)) (length (now (buffer .entry))))
         × (now (buffer .exit) ≡ bufferAfter bounds outcome margin (now (area .entry)) (now (buffer .entry)))
-        × (isStorable bounds ≡ true → length (textOf bounds outcome margin (now (area .entry))) ≤ textRoom) ⌝ }
+        × (fitsOf bounds ≡ true → length (textOf bounds outcome margin (now (area .entry))) ≤ textRoom) ⌝ }
 {
-    if !storable(bounds) {
+    if !bounds_fit(bounds) {
         return Written::Malformed;
     }
     let text = text_of(bounds, outcome, margin, area);

@@ -3,8 +3,8 @@ ghost use Prim.Native.Nat.{_+_, _-_, _*_, _^_, _≤_, _<_};
 ghost use mathlib.Core.Path.{_≡_};
 ghost use lib.ListN.{getD};
 ghost use Rattle.format.specs.Numbers.{numberFrom, wordFrom};
-ghost use Rattle.format.specs.Bounds.{Storable};
-ghost use Rattle.word.specs.Word.{marked};
+ghost use Rattle.format.specs.Bounds.{FitsPolynomials};
+ghost use Rattle.row_mask.specs.Word.{isSet};
 ghost use Rattle.text.specs.Drafts.{held, extended};
 ghost use Rattle.text.specs.Lines.{longestAnswer, rowItems, coefficientFrom, degreeWithin, itemsBelow, coefficientsLine, outputLineFrom, outputLines, marginLine};
 use crate::draft::Draft;
@@ -33,7 +33,7 @@ fn number_at(area: &[u8], at: usize) -> u32
 }
 
 // The word of wrong rows.
-pub fn word_from(area: &[u8]) -> u32
+pub fn read_word(area: &[u8]) -> u32
     ensures { λ r. ⌜ r ≡ wordFrom (now (area .entry)) ⌝ }
 {
     number_at(area, 0) * 65536 + number_at(area, 2)
@@ -49,12 +49,12 @@ fn without_row(word: u32, row: u32) -> u32
 
 // The wrong rows, rising: the first one, its bit cleared, and again.
 pub fn put_rows(draft: Draft, word: u32) -> Draft
-    ensures { λ r. ⌜ held r ≡ extended draft (rowItems 32 0 (marked word)) ⌝ }
+    ensures { λ r. ⌜ held r ≡ extended draft (rowItems 32 0 (isSet word)) ⌝ }
 {
     let mut r = draft;
     let mut rest = word;
     while rest != 0 {
-        let row = word::first_wrong(rest);
+        let row = row_mask::first_wrong(rest);
         r = put_item(r, row);
         rest = without_row(rest, row);
     }
@@ -110,7 +110,7 @@ fn put_output(draft: Draft, area: &[u8], i: usize, start: usize, bound: usize) -
 
 // The lines of all outputs.
 pub fn put_outputs(draft: Draft, area: &[u8], b: Bounds) -> Draft
-    requires { ⌜ Storable b ⌝ }
+    requires { ⌜ FitsPolynomials b ⌝ }
     ensures { λ r. ⌜ held r ≡ extended draft (outputLines b (now (area .entry)) (b .outputs)) ⌝ }
 {
     let n = b.outputs;

@@ -10,41 +10,41 @@ use Rattle.format.specs.declared.Outcome.the-variants.{Refused}
 use Rattle.header.specs.Header.{boundsOf}
 use Rattle.header_rules.specs.Rules.{tooShort, addedHeaderBroken}
 use Rattle.header_rules.proofs.Rules.{twoTests}
-use Rattle.row_search.specs.Search.{ifHolds}
+use Rattle.lists.specs.Search.{ifHolds}
 use Rattle.job.specs.Refusals.{tooFewRows, refuse}
-use Rattle.coefficients.specs.Coefficients.{anyTooLarge}
-use Rattle.trial.specs.Refusals.{byteCountsDiffer, tooManyRows, testedNumbers, testedLengths, testedBefore}
+use Rattle.answer.specs.Coefficients.{anyTooLarge}
+use Rattle.trial.specs.Refusals.{byteCountsDiffer, tooManyRows, numbersOutcome, lengthsOutcome, outcomeBefore10}
 
 pub or-second : (a : Bool) {b : Bool} → b ≡ true → (a || b) ≡ true
 or-second true e = refl
 or-second false e = e
 
 module _ (b : Bounds) (c : List ℕ) (w : ℕ) (later : Outcome) where
-  pub at-9 : tooManyRows b w ≡ true → testedNumbers b c w later ≡ Refused TooManyRows 0
-  unfolding testedNumbers
+  pub at-9 : tooManyRows b w ≡ true → numbersOutcome b c w later ≡ Refused TooManyRows 0
+  unfolding numbersOutcome
   at-9 e = rw e refl
 
   module _ (not-9 : tooManyRows b w ≡ false) where
-    pub at-5 : anyTooLarge b c ≡ true → testedNumbers b c w later ≡ Refused OutOfRange 0
-    unfolding testedNumbers
+    pub at-5 : anyTooLarge b c ≡ true → numbersOutcome b c w later ≡ Refused OutOfRange 0
+    unfolding numbersOutcome
     at-5 e = rw (not-9, e) refl
 
-    pub past-5 : anyTooLarge b c ≡ false → testedNumbers b c w later ≡ later
-    unfolding testedNumbers
+    pub past-5 : anyTooLarge b c ≡ false → numbersOutcome b c w later ≡ later
+    unfolding numbersOutcome
     past-5 e = rw (not-9, e) refl
 
 module _ (h c : List ℕ) (w : ℕ) (later : Outcome) where
-  pub at-3 : byteCountsDiffer h c ≡ true → testedLengths h c w later ≡ Refused ByteCount 0
-  unfolding testedLengths
+  pub at-3 : byteCountsDiffer h c ≡ true → lengthsOutcome h c w later ≡ Refused ByteCount 0
+  unfolding lengthsOutcome
   at-3 e = rw e refl
 
   module _ (not-3 : byteCountsDiffer h c ≡ false) where
-    pub at-4 : tooFewRows h ≡ true → testedLengths h c w later ≡ Refused TooFewRows 0
-    unfolding testedLengths
+    pub at-4 : tooFewRows h ≡ true → lengthsOutcome h c w later ≡ Refused TooFewRows 0
+    unfolding lengthsOutcome
     at-4 e = rw (not-3, e) refl
 
-    pub past-4 : tooFewRows h ≡ false → testedLengths h c w later ≡ testedNumbers (boundsOf h) c w later
-    unfolding testedLengths
+    pub past-4 : tooFewRows h ≡ false → lengthsOutcome h c w later ≡ numbersOutcome (boundsOf h) c w later
+    unfolding lengthsOutcome
     past-4 e = rw (not-3, e) refl
 
 two-decide : (a b : Bool) (later : Outcome) → twoTests a b later ≡ refuse TooShort (ifHolds a 0) (refuse AddedHeader (ifHolds b 0) later)
@@ -53,6 +53,6 @@ two-decide false true later = refl
 two-decide false false later = refl
 
 -- tests 1 and 11 come first
-pub two-first : (h c : List ℕ) (w : ℕ) (later : Outcome) → twoTests (tooShort h) (addedHeaderBroken h) (testedLengths h c w later) ≡ testedBefore h c w later
-unfolding testedBefore
-two-first h c w later = two-decide (tooShort h) (addedHeaderBroken h) (testedLengths h c w later)
+pub two-first : (h c : List ℕ) (w : ℕ) (later : Outcome) → twoTests (tooShort h) (addedHeaderBroken h) (lengthsOutcome h c w later) ≡ outcomeBefore10 h c w later
+unfolding outcomeBefore10
+two-first h c w later = two-decide (tooShort h) (addedHeaderBroken h) (lengthsOutcome h c w later)

@@ -15,13 +15,13 @@ use Rattle.format.specs.declared.Outcome.the-variants.{Accepted, Refused}
 use Rattle.header.specs.Header.{headerLengthOf, boundsOf, headerOf, rowsNeededOf}
 use Rattle.header_rules.specs.Rules.{tooShort, addedHeaderBroken}
 use Rattle.lists.proofs.Truth.{or-false}
-use Rattle.row_search.specs.Search.{ifHolds}
+use Rattle.lists.specs.Search.{ifHolds}
 use Rattle.job.specs.Refusals.{tooFewRows, refuse}
 use Rattle.job.proofs.Forms.{Decisive, refuse-decisive}
 use Rattle.job.proofs.Facts.{refused-not-accepted, passed, does-not-hold}
-use Rattle.coefficients.specs.Coefficients.{coefficientLengthOf, anyTooLarge}
-use Rattle.coefficients.proofs.Ranges.{not-large}
-use Rattle.trial.specs.Refusals.{byteCountsDiffer, tooManyRows, testedNumbers, testedLengths, testedBefore}
+use Rattle.answer.specs.Coefficients.{coefficientLengthOf, anyTooLarge}
+use Rattle.answer.proofs.Ranges.{not-large}
+use Rattle.trial.specs.Refusals.{byteCountsDiffer, tooManyRows, numbersOutcome, lengthsOutcome, outcomeBefore10}
 
 -- where no test before 10 applies
 pub record TrialFacts (h c : List ℕ) (w : ℕ) : Type 0 where
@@ -33,8 +33,8 @@ pub record TrialFacts (h c : List ℕ) (w : ℕ) : Type 0 where
   pub few-spoiled : w ≤ boundsOf h .rows
   pub coefficients-in-range : (k : ℕ) → k < length c / 2 → numberFrom c (2 * k) < primeOf (boundsOf h)
 
-pub trial-facts : (h c : List ℕ) (w : ℕ) → testedBefore h c w Accepted ≡ Accepted → TrialFacts h c w
-unfolding testedBefore testedLengths testedNumbers
+pub trial-facts : (h c : List ℕ) (w : ℕ) → outcomeBefore10 h c w Accepted ≡ Accepted → TrialFacts h c w
+unfolding outcomeBefore10 lengthsOutcome numbersOutcome
 trial-facts h c w accepted =
     let t1 = passed TooShort (ifHolds (tooShort h) 0) _ accepted in
     let t2 = passed AddedHeader (ifHolds (addedHeaderBroken h) 0) _ (t1 .1) in
@@ -59,9 +59,9 @@ abbrev AnyReason : Reason → Type 0
 AnyReason reason = Unit
 
 module _ (h c : List ℕ) (w : ℕ) where
-  tested-decisive : Decisive AnyReason (testedBefore h c w)
-  unfolding testedBefore testedLengths testedNumbers
-  tested-decisive =
+  before-decisive : Decisive AnyReason (outcomeBefore10 h c w)
+  unfolding outcomeBefore10 lengthsOutcome numbersOutcome
+  before-decisive =
       refuse-decisive AnyReason TooShort (ifHolds (tooShort h) 0) _ tt
       (refuse-decisive AnyReason AddedHeader (ifHolds (addedHeaderBroken h) 0) _ tt
       (refuse-decisive AnyReason ByteCount (ifHolds (byteCountsDiffer h c) 0) _ tt
@@ -69,23 +69,23 @@ module _ (h c : List ℕ) (w : ℕ) where
       (refuse-decisive AnyReason TooManyRows (ifHolds (tooManyRows (boundsOf h) w) 0) _ tt
       (refuse-decisive AnyReason OutOfRange (ifHolds (anyTooLarge (boundsOf h) c) 0) (λ later. later) tt (inr (λ later. refl)))))))
 
-  pub accepted-or-refused : (testedBefore h c w Accepted ≡ Accepted) ⊎ ((reason : Reason) × (row : ℕ) × (testedBefore h c w Accepted ≡ Refused reason row))
-  accepted-or-refused = by tested-decisive
+  pub accepted-or-refused : (outcomeBefore10 h c w Accepted ≡ Accepted) ⊎ ((reason : Reason) × (row : ℕ) × (outcomeBefore10 h c w Accepted ≡ Refused reason row))
+  accepted-or-refused = by before-decisive
     where
-      by : Decisive AnyReason (testedBefore h c w) → (testedBefore h c w Accepted ≡ Accepted) ⊎ ((reason : Reason) × (row : ℕ) × (testedBefore h c w Accepted ≡ Refused reason row))
+      by : Decisive AnyReason (outcomeBefore10 h c w) → (outcomeBefore10 h c w Accepted ≡ Accepted) ⊎ ((reason : Reason) × (row : ℕ) × (outcomeBefore10 h c w Accepted ≡ Refused reason row))
       by (inl d) = inr (d .0, d .1, d .3 Accepted)
       by (inr d) = inl (d Accepted)
 
-  pub refused-whatever : {reason : Reason} {row : ℕ} → testedBefore h c w Accepted ≡ Refused reason row → (later : Outcome) → testedBefore h c w later ≡ Refused reason row
-  refused-whatever {reason} {row} e later = by tested-decisive
+  pub refused-whatever : {reason : Reason} {row : ℕ} → outcomeBefore10 h c w Accepted ≡ Refused reason row → (later : Outcome) → outcomeBefore10 h c w later ≡ Refused reason row
+  refused-whatever {reason} {row} e later = by before-decisive
     where
-      by : Decisive AnyReason (testedBefore h c w) → testedBefore h c w later ≡ Refused reason row
+      by : Decisive AnyReason (outcomeBefore10 h c w) → outcomeBefore10 h c w later ≡ Refused reason row
       by (inl d) = d .3 later ∙ sym (d .3 Accepted) ∙ e
       by (inr d) = absurd (refused-not-accepted (sym e ∙ d Accepted))
 
-  pub accepted-later : testedBefore h c w Accepted ≡ Accepted → (later : Outcome) → testedBefore h c w later ≡ later
-  accepted-later e later = by tested-decisive
+  pub accepted-later : outcomeBefore10 h c w Accepted ≡ Accepted → (later : Outcome) → outcomeBefore10 h c w later ≡ later
+  accepted-later e later = by before-decisive
     where
-      by : Decisive AnyReason (testedBefore h c w) → testedBefore h c w later ≡ later
+      by : Decisive AnyReason (outcomeBefore10 h c w) → outcomeBefore10 h c w later ≡ later
       by (inl d) = absurd (refused-not-accepted (sym (d .3 Accepted) ∙ e))
       by (inr d) = d later

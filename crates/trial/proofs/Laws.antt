@@ -13,17 +13,17 @@ use Rattle.format.specs.declared.Outcome.the-variants.{Accepted, Refused}
 use Rattle.format.specs.declared.Writing.{Writing}
 use Rattle.format.specs.declared.Writing.the-variants as writing
 use Rattle.format.specs.declared.WritingReport.{WritingReport}
-use Rattle.format.specs.Outcomes.{numberOf, refusedWriting, writtenReport, writingReportOf}
+use Rattle.format.specs.Outcomes.{refusalNumber, refusedWriting, writtenReport, writingReportOf}
 use Rattle.format.proofs.Numbers.{number-positive, number-injective}
 use Rattle.header.specs.Header.{headerOf, jobLengthOf}
-use Rattle.answer.specs.Bytes.{overwritten}
-use Rattle.trial.specs.Refusals.{jobAreaTooShort, testedBefore, trialOutcome}
+use Rattle.lists.specs.Overwriting.{overwritten}
+use Rattle.trial.specs.Refusals.{jobAreaTooShort, outcomeBefore10, trialOutcome}
 use Rattle.trial.specs.Trial.{trialJob, TrialReduced, trialReport, trialArea, Trial}
 use Rattle.trial.proofs.Facts.{accepted-or-refused, refused-whatever, accepted-later}
 
 -- the job is written
 pub record Wrote (h c : List ℕ) (start w : ℕ) (area : List ℕ) (r : WritingReport) (after : List ℕ) : Type 0 where
-  pub passes : testedBefore h c w Accepted ≡ Accepted
+  pub passes : outcomeBefore10 h c w Accepted ≡ Accepted
   pub reduced : TrialReduced h c
   pub enough : jobLengthOf (headerOf h) ≤ length area
   pub report : r ≡ writtenReport (jobLengthOf (headerOf h))
@@ -33,7 +33,7 @@ pub record Wrote (h c : List ℕ) (start w : ℕ) (area : List ℕ) (r : Writing
 pub record RefusedTrial (area : List ℕ) (r : WritingReport) (after : List ℕ) : Type 0 where
   pub reason : Reason
   pub row : ℕ
-  pub report : r ≡ refusedWriting (numberOf reason) row
+  pub report : r ≡ refusedWriting (refusalNumber reason) row
   pub untouched : after ≡ area
 
 module _ (h c : List ℕ) (start w : ℕ) (area : List ℕ) {r : WritingReport} {after : List ℕ} (T : Trial h c start w area r after) where
@@ -49,7 +49,7 @@ module _ (h c : List ℕ) (start w : ℕ) (area : List ℕ) {r : WritingReport} 
   unfolding trialOutcome
   trial-cases = by (accepted-or-refused h c w)
     where
-      last : testedBefore h c w Accepted ≡ Accepted → (reduced short : Bool) → T .reduced ≡ reduced → jobAreaTooShort h (length area) ≡ short
+      last : outcomeBefore10 h c w Accepted ≡ Accepted → (reduced short : Bool) → T .reduced ≡ reduced → jobAreaTooShort h (length area) ≡ short
           → Wrote h c start w area r after ⊎ RefusedTrial area r after
       last e false short er es = inr (refused-by NotReduced 0 (accepted-later h c w e _ ∙ rw er refl))
       last e true true er es = inr (refused-by AreaTooShort 0 (accepted-later h c w e _ ∙ rw (er, es) refl))
@@ -63,7 +63,7 @@ module _ (h c : List ℕ) (start w : ℕ) (area : List ℕ) {r : WritingReport} 
             written = T .written ∙ ap (λ o. trialArea o (trialJob h c start w) area) accepted;
           })
 
-      by : (testedBefore h c w Accepted ≡ Accepted) ⊎ ((reason : Reason) × (row : ℕ) × (testedBefore h c w Accepted ≡ Refused reason row))
+      by : (outcomeBefore10 h c w Accepted ≡ Accepted) ⊎ ((reason : Reason) × (row : ℕ) × (outcomeBefore10 h c w Accepted ≡ Refused reason row))
           → Wrote h c start w area r after ⊎ RefusedTrial area r after
       by (inl e) = last e (T .reduced) (jobAreaTooShort h (length area)) refl refl
       by (inr e) = inr (refused-by (e .0) (e .1) (refused-whatever h c w (e .2) _))
@@ -95,13 +95,13 @@ trial-unique h c start w area {r} {r'} {after} {after'} T T' = by (accepted-or-r
       T .written ∙ ap (λ o. trialArea o (trialJob h c start w) area) e ∙ sym (T' .written),
     )
 
-    same : testedBefore h c w Accepted ≡ Accepted → (b b' : Bool) → T .reduced ≡ b → T' .reduced ≡ b' → b ≡ b'
+    same : outcomeBefore10 h c w Accepted ≡ Accepted → (b b' : Bool) → T .reduced ≡ b → T' .reduced ≡ b' → b ≡ b'
     same e true true t t' = refl
     same e false false t t' = refl
     same e true false t t' = sym (T' .decided e .1 (T .decided e .0 t)) ∙ t' ∙ refl
     same e false true t t' = sym t ∙ T .decided e .1 (T' .decided e .0 t')
 
-    by : (testedBefore h c w Accepted ≡ Accepted) ⊎ ((reason : Reason) × (row : ℕ) × (testedBefore h c w Accepted ≡ Refused reason row)) → (r ≡ r') × (after ≡ after')
+    by : (outcomeBefore10 h c w Accepted ≡ Accepted) ⊎ ((reason : Reason) × (row : ℕ) × (outcomeBefore10 h c w Accepted ≡ Refused reason row)) → (r ≡ r') × (after ≡ after')
     by (inl e) = from (ap (trialOutcome h c w (length area)) (same e (T .reduced) (T' .reduced) refl refl))
     by (inr e) = from (refused-whatever h c w (e .2) _ ∙ sym (refused-whatever h c w (e .2) _))
 

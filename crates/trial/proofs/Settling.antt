@@ -13,14 +13,15 @@ use Rattle.format.specs.declared.Reason.{Reason}
 use Rattle.format.specs.declared.Reason.the-variants.{AreaTooShort}
 use Rattle.format.specs.declared.Outcome.{Outcome}
 use Rattle.format.specs.declared.Outcome.the-variants.{Accepted, Refused}
-use Rattle.format.specs.Outcomes.{numberOf, refusedWriting, writtenReport}
+use Rattle.format.specs.Outcomes.{refusalNumber, refusedWriting, writtenReport}
 use Rattle.header.specs.Header.{boundsOf, headerOf, jobLengthOf}
 use Rattle.job.proofs.Facts.{refused-not-accepted}
-use Rattle.answer.specs.Bytes.{coefficientBytes, overwritten}
+use Rattle.answer.specs.Bytes.{coefficientBytes}
+use Rattle.lists.specs.Overwriting.{overwritten}
 use Rattle.spoiling.specs.Spoiling.{addedBy}
-use Rattle.trial_rows.proofs.Numbers.{numbers-cong}
-use Rattle.coefficients.specs.Coefficients.{denominatorOf, numeratorOf}
-use Rattle.trial.specs.Refusals.{testedBefore, trialOutcome}
+use Rattle.trial.proofs.Numbers.{numbers-cong}
+use Rattle.answer.specs.Coefficients.{denominatorOf, numeratorOf}
+use Rattle.trial.specs.Refusals.{outcomeBefore10, trialOutcome}
 use Rattle.trial.specs.Trial.{jobBytes, trialJob, TrialReduced, trialReport, trialArea, Trial}
 use Rattle.trial.proofs.Facts.{refused-whatever, accepted-later}
 
@@ -38,7 +39,7 @@ module _ (h c : List ℕ) (start w : ℕ) (area : List ℕ) where
   outcome = trialOutcome h c w (length area)
 
   -- from the outcome
-  settle : (reduced : Bool) → (testedBefore h c w Accepted ≡ Accepted → (reduced ≡ true) ↔ TrialReduced h c) → {o : Outcome} → outcome reduced ≡ o
+  settle : (reduced : Bool) → (outcomeBefore10 h c w Accepted ≡ Accepted → (reduced ≡ true) ↔ TrialReduced h c) → {o : Outcome} → outcome reduced ≡ o
       → {after : List ℕ} → after ≡ trialArea o (trialJob h c start w) area → Trial h c start w area (trialReport o (jobLengthOf (headerOf h))) after
   settle reduced decided e written = record {
     reduced = reduced;
@@ -48,18 +49,18 @@ module _ (h c : List ℕ) (start w : ℕ) (area : List ℕ) where
   }
 
   -- a test before 10 refuses
-  pub settle-early : (reason : Reason) (row : ℕ) → testedBefore h c w Accepted ≡ Refused reason row → Trial h c start w area (refusedWriting (numberOf reason) row) area
+  pub settle-early : (reason : Reason) (row : ℕ) → outcomeBefore10 h c w Accepted ≡ Refused reason row → Trial h c start w area (refusedWriting (refusalNumber reason) row) area
   unfolding trialOutcome
   settle-early reason row e = settle true (λ accepted. absurd (refused-not-accepted (sym e ∙ accepted))) (refused-whatever h c w e _) refl
 
   -- the tests before 10 let the polynomials pass
-  module _ (passes : testedBefore h c w Accepted ≡ Accepted) where
+  module _ (passes : outcomeBefore10 h c w Accepted ≡ Accepted) where
     pub settle-not-reduced : (TrialReduced h c → ⊥) → Trial h c start w area (refusedWriting 10 0) area
     unfolding trialOutcome
     settle-not-reduced never = settle false (λ accepted. (λ e. clash (sym e), λ R. absurd (never R))) (accepted-later h c w passes _) refl
 
     module _ (R : TrialReduced h c) where
-      is-reduced : testedBefore h c w Accepted ≡ Accepted → (true ≡ true) ↔ TrialReduced h c
+      is-reduced : outcomeBefore10 h c w Accepted ≡ Accepted → (true ≡ true) ↔ TrialReduced h c
       is-reduced accepted = (λ e. R, λ r. refl)
 
       pub settle-short : length area < jobLengthOf (headerOf h) → Trial h c start w area (refusedWriting 7 0) area

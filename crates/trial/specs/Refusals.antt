@@ -11,11 +11,11 @@ use Rattle.format.specs.declared.Bounds.{Bounds}
 use Rattle.format.specs.declared.Reason.the-variants.{TooShort, AddedHeader, ByteCount, TooFewRows, OutOfRange, AreaTooShort, TooManyRows, NotReduced}
 use Rattle.format.specs.declared.Outcome.{Outcome}
 use Rattle.format.specs.declared.Outcome.the-variants.{Accepted}
-use Rattle.row_search.specs.Search.{ifHolds}
+use Rattle.lists.specs.Search.{ifHolds}
 use Rattle.header.specs.Header.{headerLengthOf, boundsOf, headerOf, jobLengthOf}
 use Rattle.header_rules.specs.Rules.{tooShort, addedHeaderBroken}
 use Rattle.job.specs.Refusals.{tooFewRows, refuse}
-use Rattle.coefficients.specs.Coefficients.{coefficientLengthOf, anyTooLarge}
+use Rattle.answer.specs.Coefficients.{coefficientLengthOf, anyTooLarge}
 
 -- 3: the header is "followed by surplus bytes", or the coefficients have another number of bytes than they need
 abbrev pub byteCountsDiffer : (h c : List ℕ) → Bool
@@ -30,21 +30,21 @@ abbrev pub jobAreaTooShort : (h : List ℕ) (area : ℕ) → Bool
 jobAreaTooShort h area = ltb area (jobLengthOf (headerOf h))
 
 -- 9, then 5, whose row is 0, and then what the later tests say
-unfoldable pub testedNumbers : (b : Bounds) (c : List ℕ) (w : ℕ) → Outcome → Outcome
-testedNumbers b c w later = refuse TooManyRows (ifHolds (tooManyRows b w) 0) (refuse OutOfRange (ifHolds (anyTooLarge b c) 0) later)
+unfoldable pub numbersOutcome : (b : Bounds) (c : List ℕ) (w : ℕ) → Outcome → Outcome
+numbersOutcome b c w later = refuse TooManyRows (ifHolds (tooManyRows b w) 0) (refuse OutOfRange (ifHolds (anyTooLarge b c) 0) later)
 
 -- 3, 4, 9 and 5, and then what the later tests say
-unfoldable pub testedLengths : (h c : List ℕ) (w : ℕ) → Outcome → Outcome
-testedLengths h c w later =
-    refuse ByteCount (ifHolds (byteCountsDiffer h c) 0) (refuse TooFewRows (ifHolds (tooFewRows h) 0) (testedNumbers (boundsOf h) c w later))
+unfoldable pub lengthsOutcome : (h c : List ℕ) (w : ℕ) → Outcome → Outcome
+lengthsOutcome h c w later =
+    refuse ByteCount (ifHolds (byteCountsDiffer h c) 0) (refuse TooFewRows (ifHolds (tooFewRows h) 0) (numbersOutcome (boundsOf h) c w later))
 
 -- 1, 11, and these, and then what the later tests say
-unfoldable pub testedBefore : (h c : List ℕ) (w : ℕ) → Outcome → Outcome
-testedBefore h c w later =
-    refuse TooShort (ifHolds (tooShort h) 0) (refuse AddedHeader (ifHolds (addedHeaderBroken h) 0) (testedLengths h c w later))
+unfoldable pub outcomeBefore10 : (h c : List ℕ) (w : ℕ) → Outcome → Outcome
+outcomeBefore10 h c w later =
+    refuse TooShort (ifHolds (tooShort h) 0) (refuse AddedHeader (ifHolds (addedHeaderBroken h) 0) (lengthsOutcome h c w later))
 
 -- all tests, where `reduced` says whether the polynomials are: 10 is refused if they are not, and 7 is the last
 unfoldable pub trialOutcome : (h c : List ℕ) (w area : ℕ) (reduced : Bool) → Outcome
 trialOutcome h c w area reduced =
-    testedBefore h c w
+    outcomeBefore10 h c w
     (refuse NotReduced (ifHolds (not reduced) 0) (refuse AreaTooShort (ifHolds (jobAreaTooShort h area) 0) Accepted))

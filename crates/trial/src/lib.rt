@@ -1,23 +1,25 @@
 // Paper 02, item 1: trial jobs, whose answer is known. A job is written from a header, the coefficients of g and the f's, a start and the
 // number of rows to be spoiled.
+mod job_rows;
+
 ghost use Prim.Native.Nat.{ℕ, _+_, _*_, _≤_, _<_};
 ghost use mathlib.Core.Path.{_≡_};
 ghost use mathlib.Core.Bool.{true};
 ghost use mathlib.Core.Logic.{_↔_};
 ghost use lib.ListN.{length};
-ghost use Rattle.format.specs.Bounds.{primeOf, Storable};
-ghost use Rattle.coefficients.specs.Coefficients.{coefficientLengthOf};
+ghost use Rattle.format.specs.Bounds.{primeOf, FitsPolynomials};
+ghost use Rattle.answer.specs.Coefficients.{coefficientLengthOf};
 ghost use Rattle.format.specs.Outcomes.{writingReportOf};
-ghost use Rattle.header.specs.Header.{headerOf, Narrow, NarrowHeader};
-ghost use Rattle.answer.specs.Bytes.{overwritten};
+ghost use Rattle.header.specs.Header.{headerOf, FitsFields, FitsHeader};
+ghost use Rattle.lists.specs.Overwriting.{overwritten};
 ghost use Rattle.poly.specs.Coefficients.{Bounded, Stored};
 ghost use Rattle.poly.specs.Vectors.{coefficientsAt};
 ghost use Rattle.problem.specs.Reduced.{Reduced};
 ghost use Rattle.spoiling.specs.Spoiling.{addedBy};
-ghost use Rattle.trial.specs.Refusals.{testedNumbers, testedLengths, testedBefore};
+ghost use Rattle.trial.specs.Refusals.{numbersOutcome, lengthsOutcome, outcomeBefore10};
 ghost use Rattle.trial.specs.Trial.{jobBytes, Trial};
-use coefficients::Vector;
-use coefficients::read_vector;
+use answer::Vector;
+use answer::read_vector;
 use format::Bounds;
 use format::Outcome;
 use format::Reason;
@@ -38,9 +40,9 @@ fn refused(reason: Reason) -> Outcome
 }
 
 // Tests 9 and 5.
-fn tested_numbers(coefficients: &[u8], b: Bounds, spoiled: u32) -> Outcome
-    requires { ⌜ Storable b × (length (now coefficients) ≡ coefficientLengthOf b) ⌝ }
-    ensures { λ r. ⌜ r ≡ testedNumbers b (now (coefficients .entry)) spoiled Outcome.Accepted ⌝ }
+fn check_numbers(coefficients: &[u8], b: Bounds, spoiled: u32) -> Outcome
+    requires { ⌜ FitsPolynomials b × (length (now coefficients) ≡ coefficientLengthOf b) ⌝ }
+    ensures { λ r. ⌜ r ≡ numbersOutcome b (now (coefficients .entry)) spoiled Outcome.Accepted ⌝ }
 {
     let prime = b.prime;
     let rows = b.rows;
@@ -58,9 +60,9 @@ fn tested_numbers(coefficients: &[u8], b: Bounds, spoiled: u32) -> Outcome
 }
 
 // Tests 3, 4, 9 and 5, where 1 and 11 do not apply.
-fn tested_lengths(bytes: &[u8], header: Header, coefficients: &[u8], spoiled: u32) -> Outcome
-    requires { ⌜ (header ≡ headerOf (now bytes)) × NarrowHeader header ⌝ }
-    ensures { λ r. ⌜ r ≡ testedLengths (now (bytes .entry)) (now (coefficients .entry)) spoiled Outcome.Accepted ⌝ }
+fn check_lengths(bytes: &[u8], header: Header, coefficients: &[u8], spoiled: u32) -> Outcome
+    requires { ⌜ (header ≡ headerOf (now bytes)) × FitsHeader header ⌝ }
+    ensures { λ r. ⌜ r ≡ lengthsOutcome (now (bytes .entry)) (now (coefficients .entry)) spoiled Outcome.Accepted ⌝ }
 {
     let b = header.bounds;
     if bytes.len() != header.length {
@@ -72,19 +74,19 @@ fn tested_lengths(bytes: &[u8], header: Header, coefficients: &[u8], spoiled: u3
     if b.rows < rows_needed(header) {
         return refused(Reason::TooFewRows);
     }
-    tested_numbers(coefficients, b, spoiled)
+    check_numbers(coefficients, b, spoiled)
 }
 
 // The tests before 10, in their order.
-fn tested(header: &[u8], coefficients: &[u8], spoiled: u32) -> Outcome
-    ensures { λ r. ⌜ r ≡ testedBefore (now (header .entry)) (now (coefficients .entry)) spoiled Outcome.Accepted ⌝ }
+fn check(header: &[u8], coefficients: &[u8], spoiled: u32) -> Outcome
+    ensures { λ r. ⌜ r ≡ outcomeBefore10 (now (header .entry)) (now (coefficients .entry)) spoiled Outcome.Accepted ⌝ }
 {
     let read = read_header(header);
-    let examined = header_rules::examine(header.len(), read);
-    let Outcome::Accepted = examined else {
-        return examined;
+    let checked = header_rules::check_rules(header.len(), read);
+    let Outcome::Accepted = checked else {
+        return checked;
     };
-    tested_lengths(header, read, coefficients, spoiled)
+    check_lengths(header, read, coefficients, spoiled)
 }
 
 // Whether the vector is reduced.
@@ -112,7 +114,7 @@ fn put_header(area: &mut [u8], header: &[u8])
 
 // Writes the job of a vector and returns how many bytes it wrote.
 fn put_job(area: &mut [u8], header: &[u8], b: Bounds, v: Vector, start: u32, spoiled: u32) -> usize
-    requires { ⌜ Narrow b × (0 < b .rows) × (length (now header) + 2 * b .rows * (1 + b .outputs) ≤ length (now area)) × Bounded (primeOf b) 32 (v .g .c)
+    requires { ⌜ FitsFields b × (0 < b .rows) × (length (now header) + 2 * b .rows * (1 + b .outputs) ≤ length (now area)) × Bounded (primeOf b) 32 (v .g .c)
         × ((i : ℕ) → i < b .outputs → Bounded (primeOf b) 32 (coefficientsAt (v .f) i)) ⌝ }
     ensures { λ r. ⌜ (r ≡ length (now (header .entry)) + 2 * b .rows * (1 + b .outputs))
         × (now (area .exit) ≡ overwritten (jobBytes b (now (header .entry)) (coefficientsAt (v .f)) (v .g .c) (addedBy (primeOf b) (b .rows) start spoiled)) (now (area .entry))) ⌝ }
@@ -124,7 +126,7 @@ fn put_job(area: &mut [u8], header: &[u8], b: Bounds, v: Vector, start: u32, spo
     let f = v.f;
     let additions = spoiling::spoilings(prime, rows, start, spoiled as usize);
     let by = additions.by;
-    trial_rows::put_rows(area, header.len(), b, g, f, &by)
+    job_rows::put_rows(area, header.len(), b, g, f, &by)
 }
 
 // Any header, coefficients, start and number of rows, any area: the caller owes nothing.
@@ -137,8 +139,8 @@ pub fn trial(
 ) -> Writing
     ensures { λ r. ⌜ Trial (now (header .entry)) (now (coefficients .entry)) start spoiled (now (area .entry)) (writingReportOf r) (now (area .exit)) ⌝ }
 {
-    let verdict = tested(header, coefficients, spoiled);
-    if let Outcome::Refused { reason, row } = verdict {
+    let outcome = check(header, coefficients, spoiled);
+    if let Outcome::Refused { reason, row } = outcome {
         return Writing::Refused {
             reason: reason,
             row: row,

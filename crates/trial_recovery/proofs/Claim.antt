@@ -17,23 +17,25 @@ use Rattle.format.specs.Outcomes.{reportOf, refusedReport, recoveredReport}
 use Rattle.header.specs.declared.Header.{Header}
 use Rattle.header.specs.Header.{headerLengthOf, boundsOf, headerOf, jobLengthOf, rowsNeededOf}
 use Rattle.header_rules.specs.Rules.{breaksRule}
-use Rattle.header.proofs.Fields.{narrow, storable}
+use Rattle.header.proofs.Fields.{fits-fields, fits-polynomials}
 use Rattle.job.specs.Refusals.{outcomeOf}
 use Rattle.job.proofs.Deciding.{at-1}
 use Rattle.job.proofs.Facts.{WellFormedFacts, facts-well-formed, refused-not-accepted}
-use Rattle.word.specs.Word.{wordOf, countBelow}
-use Rattle.word.proofs.Words.{word-same}
-use Rattle.word.proofs.Counts.{count-same}
-use Rattle.answer.specs.Bytes.{fourBytes, answerBytes, overwritten}
+use Rattle.row_mask.specs.Word.{wordOf}
+use Rattle.lists.specs.Counting.{countBelow}
+use Rattle.row_mask.proofs.Words.{word-same}
+use Rattle.lists.proofs.Counting.{count-same}
+use Rattle.answer.specs.Bytes.{fourBytes, answerBytes}
+use Rattle.lists.specs.Overwriting.{overwritten}
 use Rattle.problem.specs.Reduced.{Reduced}
 use Rattle.problem.specs.Answers.{wrongAt, wrongCount, Within, Answer, wordFor, recoveredBytes}
 use Rattle.problem.proofs.Same.{wrong-count-same, recovered-same}
 use Rattle.recovery.specs.Recovery.{RefusedEarly, Answered, RefusedUnsolvable, Settled}
-use Rattle.coefficients.specs.Coefficients.{denominatorOf, numeratorOf}
+use Rattle.answer.specs.Coefficients.{denominatorOf, numeratorOf}
 use Rattle.trial.specs.Trial.{trialJob, TrialReduced, Trial}
 use Rattle.trial.proofs.Facts.{TrialFacts, trial-facts}
-use Rattle.coefficients.proofs.Written.{Bytes, coefficients-written}
-use Rattle.coefficients.proofs.Ranges.{denominator-bounded, numerator-bounded}
+use Rattle.answer.proofs.Written.{Bytes, coefficients-written}
+use Rattle.answer.proofs.Ranges.{denominator-bounded, numerator-bounded}
 use Rattle.trial.proofs.Laws.{Wrote, RefusedTrial, trial-cases, wrote-if-not-refused, refused-otherwise}
 use Rattle.trial_recovery.specs.TrialRecovery.{poleOrSpoiled, polesAndSpoiled, GivenBack, TrialRecovered}
 use Rattle.trial_recovery.proofs.Reading.{job-length, header-same, bounds-same, number-below, number-read, point-read, all-speak}
@@ -61,7 +63,7 @@ module _ (h c : List ℕ) (start w : ℕ) (F : TrialFacts h c w) (R : TrialReduc
   -- the job is well formed
   job-facts : (area : ℕ) → answerLengthOf (boundsOf h) ≤ area → WellFormedFacts s area
   job-facts area enough = record {
-    fields = narrow s;
+    fields = fits-fields s;
     rules = ap breaksRule header ∙ F .rules;
     byte-count = job-length h c start w F ∙ sym (ap jobLengthOf header);
     enough-rows = subst (λ (x : Header). rowsNeededOf x ≤ x .bounds .rows) (sym header) (F .enough-rows);
@@ -84,8 +86,8 @@ module _ (h c : List ℕ) (start w : ℕ) (F : TrialFacts h c w) (R : TrialReduc
   job-answer : polesAndSpoiled h c start w ≤ boundsOf h .errors → Answer s f g
   job-answer few = record {
     within = subst (λ b. Within b f g) (sym bounds) (record {
-      numerators = numerator-bounded (boundsOf h) (storable h) c (F .coefficient-bytes) (F .coefficients-in-range);
-      denominator = denominator-bounded (boundsOf h) (storable h) c (F .coefficient-bytes) (F .coefficients-in-range);
+      numerators = numerator-bounded (boundsOf h) (fits-polynomials h) c (F .coefficient-bytes) (F .coefficients-in-range);
+      denominator = denominator-bounded (boundsOf h) (fits-polynomials h) c (F .coefficient-bytes) (F .coefficients-in-range);
     });
     reduced = subst (λ (b : Bounds). Reduced (primeOf b) (b .outputs) f g) (sym bounds) R;
     few-wrong = subst (λ (b : Bounds). wrongCount s f g ≤ b .errors) (sym bounds) (subst (λ k. k ≤ boundsOf h .errors) (sym count-is) few);
@@ -95,7 +97,7 @@ module _ (h c : List ℕ) (start w : ℕ) (F : TrialFacts h c w) (R : TrialReduc
   bytes-are bytes =
       ap (λ b. answerBytes b (wordFor s f g) g f) bounds
       ∙ ap (λ word. answerBytes (boundsOf h) word g f) word-is
-      ∙ ap (λ l. fourBytes (wordOf (boundsOf h .rows) (poleOrSpoiled h c start w)) ++ l) (coefficients-written c bytes (boundsOf h) (storable h) (F .coefficient-bytes))
+      ∙ ap (λ l. fourBytes (wordOf (boundsOf h .rows) (poleOrSpoiled h c start w)) ++ l) (coefficients-written c bytes (boundsOf h) (fits-polynomials h) (F .coefficient-bytes))
 
   given-back : Bytes c → (area : List ℕ) {r : Report} {after : List ℕ} → Settled s area r after → answerLengthOf (boundsOf h) ≤ length area
       → polesAndSpoiled h c start w ≤ boundsOf h .errors → GivenBack h c start w area r after

@@ -12,21 +12,21 @@ use Rattle.field.proofs.Primality.{IsPrime}
 use Rattle.field.proofs.Moduli.{modulus-prime, modulus-positive}
 use Rattle.format.specs.Bounds.{primeOf}
 use Rattle.header.specs.Header.{boundsOf}
-use Rattle.header.proofs.Fields.{narrow}
+use Rattle.header.proofs.Fields.{fits-fields}
 use Rattle.poly.specs.Operations.{valueOf}
 use Rattle.problem.specs.Rows.{wrongRow}
 use Rattle.problem.specs.Answers.{wrongAt}
 use Rattle.problem.proofs.Rows.{wrong-one, all-right, wrong-same, unmarked-verdict}
 use Rattle.problem.proofs.Roots.{root-wrong}
-use Rattle.coefficients.specs.Coefficients.{denominatorOf, numeratorOf}
+use Rattle.answer.specs.Coefficients.{denominatorOf, numeratorOf}
 use Rattle.spoiling.specs.Spoiling.{addedBy, spoiledBy}
 use Rattle.spoiling.proofs.Added.{added-below, spoiled-positive, unspoiled-zero}
-use Rattle.trial_rows.specs.Rows.{poleAt, valueBefore, trialNumber}
-use Rattle.trial_rows.proofs.Values.{regular-right, regular-only, value-before-below}
+use Rattle.trial.specs.Rows.{poleAt, valueBefore, trialNumber}
+use Rattle.trial.proofs.Values.{regular-right, regular-only, value-before-below}
 use Rattle.trial.specs.Trial.{trialJob, TrialReduced}
 use Rattle.trial.proofs.Facts.{TrialFacts}
 use Rattle.trial_recovery.specs.TrialRecovery.{poleOrSpoiled}
-use Rattle.trial_recovery.proofs.Reading.{bounds-same, number-read, row-unmarked, numberOf}
+use Rattle.trial_recovery.proofs.Reading.{bounds-same, number-read, row-unmarked, refusalNumber}
 
 -- a residue that is moved by 1 to p - 1 is another one
 moved : (p v a : ℕ) → v < p → 0 < a → a < p → (v + a) % p ≡ v → ⊥
@@ -53,7 +53,7 @@ module _ (h c : List ℕ) (start w : ℕ) (facts : TrialFacts h c w) (R : TrialR
   g = denominatorOf (boundsOf h) c
 
   abbrev numbers : ℕ → ℕ → ℕ
-  numbers = numberOf h c start w facts
+  numbers = refusalNumber h c start w facts
 
   -- row r as it was written
   abbrev writtenWrong : ℕ → Bool
@@ -85,7 +85,7 @@ module _ (h c : List ℕ) (start w : ℕ) (facts : TrialFacts h c w) (R : TrialR
         let a = addedBy p (boundsOf h .rows) start w r in
         let v = valueBefore p f g r 0 in
         let positive = modulus-positive (boundsOf h .prime) in
-        wrong-one p r _ f g n 0 (let l = narrow h .outputs-least in omega arith)
+        wrong-one p r _ f g n 0 (let l = fits-fields h .outputs-least in omega arith)
         (λ right. moved p v a (value-before-below P f g r 0) (spoiled-positive p (boundsOf h .rows) start w r e) (added-below p (boundsOf h .rows) start w r (P .two))
         (regular-only P f g r 0 regular ((v + a) % p) (mod-lt _ positive) (right ∙ ap (λ y. valueOf p r g * y % p) (first-value r))))
 

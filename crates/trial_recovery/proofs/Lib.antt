@@ -1,3 +1,4 @@
+mod Examples
 pub mod Reading
 pub mod Judging
 pub mod Claim

@@ -14,21 +14,21 @@ use Rattle.format.specs.Bounds.{primeOf}
 use Rattle.header.specs.declared.Header.{Header}
 use Rattle.header.specs.Header.{headerLengthOf, boundsOf, headerOf, jobLengthOf}
 use Rattle.header.proofs.Appended.{header-append}
-use Rattle.header.proofs.Fields.{narrow}
+use Rattle.header.proofs.Fields.{fits-fields}
 use Rattle.rows.specs.Rows.{numberAt}
 use Rattle.marked_rows.specs.declared.Mark.the-variants.{None}
 use Rattle.marked_rows.specs.Marks.{markAt, speaking, speaks, speakingCount}
 use Rattle.marked_rows.proofs.Marks.{unmarked-if-small}
-use Rattle.word.specs.Word.{countBelow}
-use Rattle.word.proofs.Counts.{count-all}
+use Rattle.lists.specs.Counting.{countBelow}
+use Rattle.lists.proofs.Counting.{count-all}
 use Rattle.answer.specs.Bytes.{coefficientBytes}
 use Rattle.answer.proofs.Lengths.{length-coefficients}
 use Rattle.answer.proofs.Reading.{SixteenBits, number-behind, coefficient-of-bytes}
-use Rattle.coefficients.specs.Coefficients.{denominatorOf, numeratorOf}
+use Rattle.answer.specs.Coefficients.{denominatorOf, numeratorOf}
 use Rattle.spoiling.specs.Spoiling.{addedBy}
-use Rattle.trial_rows.specs.Rows.{trialNumber, trialNumbers}
-use Rattle.trial_rows.proofs.Values.{value-before-below}
-use Rattle.trial_rows.proofs.Numbers.{row-below}
+use Rattle.trial.specs.Rows.{trialNumber, trialNumbers}
+use Rattle.trial.proofs.Values.{value-before-below}
+use Rattle.trial.proofs.Numbers.{row-below}
 use Rattle.trial.specs.Trial.{trialJob}
 use Rattle.trial.proofs.Facts.{TrialFacts}
 
@@ -42,8 +42,8 @@ module _ (h c : List ℕ) (start w : ℕ) (facts : TrialFacts h c w) where
   abbrev n : ℕ
   n = boundsOf h .outputs
 
-  abbrev pub numberOf : ℕ → ℕ → ℕ
-  numberOf = trialNumber p (numeratorOf (boundsOf h) c) (denominatorOf (boundsOf h) c) (addedBy p L start w)
+  abbrev pub refusalNumber : ℕ → ℕ → ℕ
+  refusalNumber = trialNumber p (numeratorOf (boundsOf h) c) (denominatorOf (boundsOf h) c) (addedBy p L start w)
 
   abbrev numbers : List ℕ
   numbers = trialNumbers p (numeratorOf (boundsOf h) c) (denominatorOf (boundsOf h) c) (addedBy p L start w) L n
@@ -63,7 +63,7 @@ module _ (h c : List ℕ) (start w : ℕ) (facts : TrialFacts h c w) where
   bounds-same = ap (λ (x : Header). x .bounds) header-same
 
   -- the numbers are residues
-  pub number-below : (r column : ℕ) → r < L → numberOf r column < p
+  pub number-below : (r column : ℕ) → r < L → refusalNumber r column < p
   unfolding trialNumber
   number-below r zero l = omega (arith, facts .distinct-points)
   number-below r (suc zero) l = mod-lt _ (modulus-positive (boundsOf h .prime))
@@ -77,11 +77,11 @@ module _ (h c : List ℕ) (start w : ℕ) (facts : TrialFacts h c w) where
       by (inl l) =
           let low = number-below (k / (1 + n)) (k % (1 + n)) (row-below L (1 + n) k (omega arith) l) in
           let small = modulus-small (boundsOf h .prime) in
-          rw (at-tabulate (L * (1 + n)) (λ j. numberOf (j / (1 + n)) (j % (1 + n))) k l) (omega arith)
-      by (inr l) = rw (at-tabulate-past (L * (1 + n)) (λ j. numberOf (j / (1 + n)) (j % (1 + n))) k l) (omega arith)
+          rw (at-tabulate (L * (1 + n)) (λ j. refusalNumber (j / (1 + n)) (j % (1 + n))) k l) (omega arith)
+      by (inr l) = rw (at-tabulate-past (L * (1 + n)) (λ j. refusalNumber (j / (1 + n)) (j % (1 + n))) k l) (omega arith)
 
   -- the number in row r and a column
-  pub number-read : (r column : ℕ) → r < L → column ≤ n → numberAt job r column ≡ numberOf r column
+  pub number-read : (r column : ℕ) → r < L → column ≤ n → numberAt job r column ≡ refusalNumber r column
   unfolding numberAt trialJob trialNumbers
   number-read r column l m =
       let outputs = ap (λ b. b .outputs) bounds-same in
@@ -93,8 +93,8 @@ module _ (h c : List ℕ) (start w : ℕ) (facts : TrialFacts h c w) where
       rw (first, outputs)
       (number-behind h (coefficientBytes numbers (L * (1 + n))) (headerLengthOf h + 2 * k) (2 * k) (omega arith)
       ∙ coefficient-of-bytes numbers sixteen-bits (L * (1 + n)) k inside
-      ∙ at-tabulate (L * (1 + n)) (λ j. numberOf (j / (1 + n)) (j % (1 + n))) k inside
-      ∙ ap₂ numberOf (digits-div r (omega arith)) (digits-mod r (omega arith)))
+      ∙ at-tabulate (L * (1 + n)) (λ j. refusalNumber (j / (1 + n)) (j % (1 + n))) k inside
+      ∙ ap₂ refusalNumber (digits-div r (omega arith)) (digits-mod r (omega arith)))
 
   pub point-read : (r : ℕ) → r < L → numberAt job r 0 ≡ r
   unfolding trialNumber
@@ -103,7 +103,7 @@ module _ (h c : List ℕ) (start w : ℕ) (facts : TrialFacts h c w) where
   -- the values are numbers below p, and no marks, also where marks are allowed: every row speaks
   pub row-unmarked : (r : ℕ) → r < L → markAt job r ≡ None
   row-unmarked r l =
-      let least = narrow job .outputs-least in
+      let least = fits-fields job .outputs-least in
       let outputs = ap (λ b. b .outputs) bounds-same in
       let below = number-below r 1 l in
       let small = modulus-small (boundsOf h .prime) in

@@ -10,12 +10,14 @@ use Rattle.format.specs.declared.Report.{Report}
 use Rattle.format.specs.declared.WritingReport.{WritingReport}
 use Rattle.format.specs.Outcomes.{refusedReport, recoveredReport}
 use Rattle.header.specs.Header.{boundsOf}
-use Rattle.word.specs.Word.{wordOf, countBelow}
-use Rattle.answer.specs.Bytes.{fourBytes, overwritten}
+use Rattle.row_mask.specs.Word.{wordOf}
+use Rattle.lists.specs.Counting.{countBelow}
+use Rattle.answer.specs.Bytes.{fourBytes}
+use Rattle.lists.specs.Overwriting.{overwritten}
 use Rattle.recovery.specs.Recovery.{Settled}
-use Rattle.coefficients.specs.Coefficients.{denominatorOf}
+use Rattle.answer.specs.Coefficients.{denominatorOf}
 use Rattle.spoiling.specs.Spoiling.{spoiledBy}
-use Rattle.trial_rows.specs.Rows.{poleAt}
+use Rattle.trial.specs.Rows.{poleAt}
 use Rattle.trial.specs.Trial.{Trial}
 
 -- row r is a pole or spoiled

@@ -6,7 +6,7 @@ use format::Outcome;
 use format::Writing;
 
 // What two calls returned.
-pub struct Both {
+pub struct TrialAndRecovery {
     pub writing: Writing,
     pub recovery: Outcome,
 }
@@ -29,7 +29,7 @@ pub fn write_and_recover(
     spoiled: u32,
     job_area: &mut [u8],
     area: &mut [u8],
-) -> Both
+) -> TrialAndRecovery
     ensures { λ r.
         ⌜ TrialRecovered (now (header .entry)) (now (coefficients .entry)) start spoiled (now («job_area» .entry)) (writingReportOf (r .writing)) (now («job_area» .exit))
         (now (area .entry)) (reportOf (r .recovery)) (now (area .exit)) ⌝ }
@@ -37,7 +37,7 @@ pub fn write_and_recover(
     let writing = trial::trial(header, coefficients, start, spoiled, job_area);
     let end = bytes_written(writing);
     let recovery = recovery::recover(&job_area[0..end], area);
-    Both {
+    TrialAndRecovery {
         writing: writing,
         recovery: recovery,
     }

@@ -3,8 +3,9 @@ use mathlib.Core.Path.{_≡_, refl, sym, ap, _∙_}
 use native.Mathlib.Omega.{arith}
 use lib.ListN.{length}
 use borrow.Author.Needs.{needs}
-use Rattle.answer.specs.Bytes.{coefficientBytes, spliced}
-use Rattle.answer.proofs.Splices.{splice-none}
+use Rattle.answer.specs.Bytes.{coefficientBytes}
+use Rattle.lists.specs.Overwriting.{spliced}
+use Rattle.lists.proofs.Splices.{splice-none}
 use Rattle.answer.proofs.Runs.{next-coefficient}
 use Rattle.answer.proofs.put_coefficients.Statement.{statement}
 use Rattle.answer.proofs.put_coefficients.Tie as tie

@@ -4,8 +4,9 @@ use native.Mathlib.Omega.{arith}
 use lib.ListN.{length}
 use borrow.Author.Needs.{needs}
 use Rattle.poly.specs.Vectors.{coefficientsAt}
-use Rattle.answer.specs.Bytes.{outputBytes, spliced}
-use Rattle.answer.proofs.Splices.{splice-none}
+use Rattle.answer.specs.Bytes.{outputBytes}
+use Rattle.lists.specs.Overwriting.{spliced}
+use Rattle.lists.proofs.Splices.{splice-none}
 use Rattle.answer.proofs.Lengths.{output-within}
 use Rattle.answer.proofs.Runs.{next-output, next-place}
 use Rattle.answer.proofs.put_outputs.Statement.{statement}

@@ -1,7 +1,7 @@
 use mathlib.Core.Path.{_≡_, ap, _∙_}
 use mathlib.Core.Logic.{⊎-elim}
 use Prim.Native.Nat.{_-_, _≤_}
-use Rattle.extension.specs.Extensions.{Fitting}
+use Rattle.candidate.specs.Extensions.{Fitting}
 use Rattle.candidate.specs.Candidates.{candidateAfter}
 use Rattle.candidate.proofs.CandidateLaws.{fitting-start, after-none, after-more, after-stays}
 use borrow.Author.Needs.{needs}

@@ -2,7 +2,7 @@ use mathlib.Core.Path.{_≡_, sym, ap, _∙_}
 use native.Mathlib.Omega.{arith}
 use borrow.Author.Needs.{needs}
 use Rattle.pairs.specs.declared.Pair.{Pair}
-use Rattle.extension.proofs.Fittings.{fitting-unsolvable}
+use Rattle.candidate.proofs.Fittings.{fitting-unsolvable}
 use Rattle.candidate.specs.Candidates.{withFraction, nextOf}
 use Rattle.candidate.proofs.CandidateLaws.{fraction-none, fraction-some}
 use Rattle.candidate.proofs.next.Statement.{statement}

@@ -2,10 +2,10 @@ use mathlib.Core.Path.{_≡_, ap, _∙_}
 use Prim.Native.Nat.{_+_, _-_, _≤_}
 use native.Mathlib.Omega.{arith}
 use borrow.Author.Needs.{needs}
-use Rattle.word.proofs.Counts.{count-most}
+use Rattle.lists.proofs.Counting.{count-most}
 use Rattle.format.specs.Bounds.{primeOf}
 use Rattle.pairs.specs.Pairs.{activeAt, activeCount, solutionOf}
-use Rattle.candidate.specs.Candidates.{phiBound, psiBound, pairOf}
+use Rattle.candidate.specs.Candidates.{phiBound, psiBound, outputPairOf}
 use Rattle.candidate.proofs.pair.Statement.{statement}
 use Rattle.candidate.proofs.pair.Tie as tie
 
@@ -40,7 +40,7 @@ returns c =
     c .before .before .less .ensures ∙ ap (psiBound (g .b) (g .speaking)) (column .2) in (
       c .solution .ensures .0
           ∙ ap (λ n. solutionOf (primeOf (g .b)) (g .points .now) (g .weights .now) (c .before .before .before .before .column .result .z) (phiBound (g .b) (g .speaking)) n (g .b .rows)) bound-b
-          ∙ ap (pairOf (g .b) (g .speaking) (g .points .now) (g .weights .now)) (column .0 (g .points .now) (S .pre .2)),
+          ∙ ap (outputPairOf (g .b) (g .speaking) (g .points .now) (g .weights .now)) (column .0 (g .points .now) (S .pre .2)),
       c .solution .ensures .1,
     )
 

@@ -7,7 +7,7 @@ use Rattle.capi.proofs.hanthuvelo_judge.Tie as tie
 
 returns : tie.Need-returns
 returns c =
-    let j = c .before .judge-answer in
+    let j = c .before .judge in
     let s = c .before .before .before .before .args in
     subst (Judged (now (s .job)) (now (s .answer))) (sym (c .reported .ensures)) (j .ensures)
 

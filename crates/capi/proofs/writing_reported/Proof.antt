@@ -8,7 +8,7 @@ returns : tie.Need-returns
 returns c = ap writingReportOf (sym (c .before .writing .given .1))
 
 returns-2 : tie.Need-returns-2
-returns-2 c = rw (c .number .ensures) (ap writingReportOf (sym (c .before .before .writing2 .given .1)))
+returns-2 c = rw (c .refusal-number .ensures) (ap writingReportOf (sym (c .before .before .writing2 .given .1)))
 
 pub writing-reported-spec : {M : Type 1} → statement M
 writing-reported-spec =

@@ -3,8 +3,8 @@ use mathlib.Core.Bool.{Bool}
 use mathlib.Core.Path.{_≡_, refl}
 use borrow.Author.Needs.{needs}
 use native.Mathlib.Omega.{arith}
-use Rattle.word.specs.Word.{countBelow}
-use Rattle.word.proofs.Counts.{count-step, count-most}
+use Rattle.lists.specs.Counting.{countBelow}
+use Rattle.lists.proofs.Counting.{count-step, count-most}
 use Rattle.pairs.specs.Pairs.{activeAt, activeCount}
 use Rattle.column.proofs.active_rows.Statement.{statement}
 use Rattle.column.proofs.active_rows.Tie as tie

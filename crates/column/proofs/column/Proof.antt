@@ -1,10 +1,10 @@
+use lib.ListN.{getD}
 use mathlib.Core.Path.{_≡_, refl}
 use Prim.Native.Nat.{_-_, _+_, _*_, _%_, _≤_}
 use native.Mathlib.Omega.{arith}
 use borrow.Author.Needs.{needs}
 use Rattle.field.specs.Primes.{modulusOf}
 use Rattle.field.proofs.Moduli.{modulus-positive, residue-below}
-use Rattle.poly.specs.Coefficients.{at}
 use Rattle.lists.proofs.Filling.{Filled, filled-none, filled-more, filled-below}
 use Rattle.column.specs.Columns.{columnOf}
 use Rattle.column.proofs.Columns.{column-all}
@@ -14,7 +14,7 @@ use Rattle.column.proofs.column.Tie as tie
 
 abbrev Inv-loop : tie.InvT-loop
 Inv-loop xs weights values i prime rows gs z₀ l₀ z l =
-    (l ≤ rows) × Filled 32 (λ k. at gs k * at values (k * 4 + i) % modulusOf prime) (λ k. 0) l z
+    (l ≤ rows) × Filled 32 (λ k. getD gs k 0 * getD values (k * 4 + i) 0 % modulusOf prime) (λ k. 0) l z
 
 abbrev μ-loop : tie.MeasureT-loop
 μ-loop xs weights values i prime rows gs z₀ l₀ z l = rows - l

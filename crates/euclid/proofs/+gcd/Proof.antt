@@ -4,7 +4,7 @@ use Rattle.field.proofs.Moduli.{modulus-prime}
 use Rattle.poly.specs.Operations.{lengthOf}
 use Rattle.poly.proofs.Lists.{bounded-mono}
 use Rattle.poly.proofs.Lengths.{bounded-length}
-use Rattle.division.proofs.Leading.{length-array, bounded-stored}
+use Rattle.euclid.proofs.Leading.{length-array, bounded-stored}
 use Rattle.euclid.proofs.Euclid.{gcd-stop, gcd-more}
 use borrow.Author.Needs.{needs}
 use native.Mathlib.Omega.{arith}
@@ -14,7 +14,7 @@ use borrow.Fn.PlainCycle.{Measures, is, falls, and}
 use Rattle.euclid.proofs.gcd.Reads as gcd
 use Rattle.euclid.proofs.gcd.Kinds as gcd-kinds
 use Rattle.euclid.proofs.+gcd.Lts-gcd as gcd-lts
-use Rattle.division.proofs.divide.Reads as divide-reads
+use Rattle.euclid.proofs.division.divide.Reads as divide-reads
 use Rattle.poly.proofs.length.Reads as length-reads
 use Rattle.euclid.proofs.+gcd.{statement}
 use Rattle.euclid.proofs.+gcd.Tie.{close}

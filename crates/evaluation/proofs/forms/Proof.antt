@@ -1,9 +1,9 @@
+use lib.ListN.{getD}
 use mathlib.Core.Path.{refl, ap}
 use Prim.Native.Nat.{_-_, _≤_}
 use Rattle.field.specs.Primes.{modulusOf}
 use Rattle.montgomery.specs.declared.Factor.{Factor}
-use Rattle.montgomery.specs.Factors.{formOf}
-use Rattle.poly.specs.Coefficients.{at}
+use Rattle.montgomery.specs.Factors.{montgomeryForm}
 use Rattle.lists.proofs.Filling.{Filled, filled-none, filled-more}
 use Rattle.evaluation.proofs.Steps.{is-each}
 use borrow.Author.Needs.{needs}
@@ -13,7 +13,7 @@ use Rattle.evaluation.proofs.forms.Tie as tie
 
 abbrev Inv-loop : tie.InvT-loop
 Inv-loop q points rows end r₀ l₀ r l =
-    (l ≤ end) × Filled 32 (λ k. formOf (modulusOf q) (at points k)) (λ k. 0) l (r .v)
+    (l ≤ end) × Filled 32 (λ k. montgomeryForm (modulusOf q) (getD points k 0)) (λ k. 0) l (r .v)
 
 abbrev μ-loop : tie.MeasureT-loop
 μ-loop q points rows end r₀ l₀ r l = end - l

@@ -1,8 +1,7 @@
 use mathlib.Core.Path.{_≡_, refl, _∙_}
 use Prim.Native.Nat.{ℕ, _+_, _-_, _≤_, _<_}
-use lib.ListN.{length, drop, replicate}
+use lib.ListN.{getD, length, drop, replicate}
 use Rattle.field.proofs.Moduli.{modulus-positive, modulus-small}
-use Rattle.poly.specs.Coefficients.{at}
 use Rattle.lists.proofs.Tabulated.{at-zeros}
 use Rattle.lanes.specs.Lanes.{modulusAt, Residues}
 use Rattle.lanes_meaning.proofs.Meaning.{constants-are, inverses-are, stored-replaced, horner-below}
@@ -31,7 +30,7 @@ loop-holds : tie.Need-loop-holds Inv-loop μ-loop
 loop-holds c =
     let S = c .before .before in
     let e = c .before .modulus .ensures in
-    let zero : (l : ℕ) → at (replicate 32 0) l < c .before .modulus .result = λ l. rw (at-zeros 32 l, e) (modulus-positive (S .args .q)) in
+    let zero : (l : ℕ) → getD (replicate 32 0) l 0 < c .before .modulus .result = λ l. rw (at-zeros 32 l, e) (modulus-positive (S .args .q)) in
     (omega arith, record { size = refl; below = zero }, λ points h. values-start _ _ _ points _ (S .pre .2 .within))
 
 cast-horner : tie.Need-cast-horner Inv-loop μ-loop
@@ -47,7 +46,7 @@ horner-requires c κs =
     let k = c .before .before .before .before .before .loop .k in
     let inv = c .before .before .before .before .before .loop .inv in
     let cs = constants-are (S .args .q) _ (M .before .modulus .ensures) in
-    let low : at (S .args .t5 .c) (k - 1) < M .before .modulus .result = omega (arith, M .before .modulus .ensures, S .pre .2 .residues (k - 1)) in
+    let low : getD (S .args .t5 .c) (k - 1) 0 < M .before .modulus .result = omega (arith, M .before .modulus .ensures, S .pre .2 .residues (k - 1)) in
     let narrow = narrow-formed (S .args .q) (S .pre .3) in
     let forms : Residues (replicate 32 (M .before .modulus .result)) (S .args .xs .now) =
     record { size = narrow .size; below = λ l. omega (arith, M .before .modulus .ensures, narrow .below l) } in
@@ -64,7 +63,7 @@ loop-again c =
     let is = inverses-are (S .args .q) _ (M .inverse .ensures) in
     let e = c .horner .ensures .1 in
     let next : k - 1 + 1 ≡ k = omega arith in
-    let low : at (S .args .t5 .c) (k - 1) < M .before .modulus .result = omega (arith, M .before .modulus .ensures, S .pre .2 .residues (k - 1)) in
+    let low : getD (S .args .t5 .c) (k - 1) 0 < M .before .modulus .result = omega (arith, M .before .modulus .ensures, S .pre .2 .residues (k - 1)) in
     let size = size-of S in (
       omega arith,
       rw e (stored-replaced _ _ _ (inv .1) (λ l h. horner-below cs l h _ _ _ _)),

@@ -9,7 +9,7 @@ use lib.ListN.{length}
 use Rattle.format.specs.declared.Outcome.{Outcome}
 use Rattle.format.specs.declared.Outcome.the-variants.{Accepted}
 use Rattle.header.specs.Header.{headerOf}
-use Rattle.header.proofs.Fields.{narrow-header}
+use Rattle.header.proofs.Fields.{fits-header}
 use Rattle.job.specs.Refusals.{rowTests}
 use Rattle.job.specs.Form.{headerOutcomeOf, formOutcomeOf}
 use Rattle.job.proofs.HeaderChecks.{afterHeader, first-by-header, header-passed, refused-first}
@@ -29,7 +29,7 @@ module _ (c : tie.After-check-header) where
   by-header e = sym (first-by-header bytes Accepted ∙ ap (λ (x : Outcome). afterHeader x (rowTests bytes Accepted)) (sym outcome ∙ e))
 
 check-header-requires : tie.Need-check-header-requires
-check-header-requires c κs = rw (c .read-header .ensures) (narrow-header (now (c .before .before .args .job)))
+check-header-requires c κs = rw (c .read-header .ensures) (fits-header (now (c .before .before .args .job)))
 
 returns : tie.Need-returns
 returns c =
@@ -41,7 +41,7 @@ check-rows-requires c κs =
     let header = c .before .before in
     let read = header .before .read-header .ensures in
     let s = bytes header in
-    (read, rw read (narrow-header s), rw read (header-passed s (sym (outcome header) ∙ c .enum-told .given .1)))
+    (read, rw read (fits-header s), rw read (header-passed s (sym (outcome header) ∙ c .enum-told .given .1)))
 
 returns-2 : tie.Need-returns-2
 returns-2 c = let told = c .before in c .check-rows .ensures ∙ by-header (told .before .before) (told .enum-told .given .1)

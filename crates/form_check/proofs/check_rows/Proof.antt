@@ -14,9 +14,9 @@ use Rattle.header.specs.Header.{marksAllowed, boundsOf, rowsNeededOf}
 use Rattle.job.specs.Refusals.{outOfRange, tooFewSpeaking, repeatedPoint}
 use Rattle.job.proofs.ArrayTests.{repeated-same}
 use Rattle.job.proofs.Deciding.{at-5, at-12, at-6, past-6}
-use Rattle.row_search.specs.declared.Found.{Found}
-use Rattle.row_search.specs.declared.Found.the-variants.{Nothing}
-use Rattle.row_search.specs.Search.{firstBelow, anyBelow}
+use Rattle.lists.specs.declared.Found.{Found}
+use Rattle.lists.specs.declared.Found.the-variants.{Nothing}
+use Rattle.lists.specs.Search.{firstBelow, anyBelow}
 use Rattle.form_check.proofs.check_rows.Statement.{statement}
 use Rattle.form_check.proofs.check_rows.Tie as tie
 
@@ -30,8 +30,8 @@ bounds c = ap (λ (h : Header). h .bounds) (c .pre .0)
 scan-rows-requires : tie.Need-scan-rows-requires
 scan-rows-requires c κs =
     let s = c .before .before .before .before in
-    let narrow = s .pre .1 in (
-      (narrow .length-most, narrow .bounds .rows-most, narrow .bounds .outputs-most, s .pre .2),
+    let fits-fields = s .pre .1 in (
+      (fits-fields .length-most, fits-fields .bounds .rows-most, fits-fields .bounds .outputs-most, s .pre .2),
       (
         ap (λ (h : Header). h .length) (s .pre .0),
         ap (λ (b : Bounds). b .rows) (bounds s),

@@ -6,18 +6,18 @@ use native.Mathlib.Omega.{arith}
 use denote.Ref.{now}
 use lib.ListN.{getD, replicate}
 use Rattle.lists.proofs.Filling.{Filled, filled-from, filled-more}
-use Rattle.word.specs.Word.{flagOf, countBelow}
-use Rattle.word.proofs.Counts.{count-step, count-most}
+use Rattle.lists.specs.Counting.{oneIf, countBelow}
+use Rattle.lists.proofs.Counting.{count-step, count-most}
 use Rattle.header.specs.Header.{boundsOf}
 use Rattle.job.specs.Refusals.{outOfRange}
-use Rattle.row_search.specs.Search.{firstBelow}
-use Rattle.row_search.proofs.FirstBelow.{Searching, search-start, search-next, search-found, search-end, at-not-nothing}
+use Rattle.lists.specs.Search.{firstBelow}
+use Rattle.lists.proofs.FirstBelow.{Searching, search-start, search-next, search-found, search-end, at-not-nothing}
 use Rattle.rows.specs.Rows.{jobPoint}
 use Rattle.rows.specs.Steps.{rowAt}
-use Rattle.marked_rows.specs.declared.SettledRow.{SettledRow}
+use Rattle.marked_rows.specs.declared.RowConditions.{RowConditions}
 use Rattle.marked_rows.specs.Marks.{markAt, speaks, speakingCount}
-use Rattle.marked_rows.specs.Table.{settledBy}
-use Rattle.marked_rows.proofs.Entries.{settled-read, settled-point, settled-speaking, speaking-most}
+use Rattle.marked_rows.specs.Table.{conditionsBy}
+use Rattle.marked_rows.proofs.Entries.{conditions-read, conditions-point, conditions-speaking, speaking-most}
 use Rattle.form_check.proofs.RangeTests.{row-point, settled-test}
 use Rattle.form_check.proofs.scan_marked.Statement.{statement}
 use Rattle.form_check.proofs.scan_marked.Tie as tie
@@ -39,26 +39,26 @@ all-rows : (c : tie.At-loop Inv-loop μ-loop) → let start = c .before .before 
 all-rows c = ap (λ n. firstBelow n (outOfRange (now (c .before .before .args .job)))) (c .before .before .pre .1 .1)
 
 -- the row that was read and settled
-module _ (c : tie.After-settled Inv-loop μ-loop) where
+module _ (c : tie.After-row-conditions Inv-loop μ-loop) where
   abbrev here : tie.At-loop Inv-loop μ-loop
   here = c .before .before .before
 
   abbrev bytes : List ℕ
   bytes = now (here .before .before .args .job)
 
-  row : c .settled .result ≡ settledBy (markAt bytes (here .loop .r)) (rowAt bytes (here .loop .r))
+  row : c .row-conditions .result ≡ conditionsBy (markAt bytes (here .loop .r)) (rowAt bytes (here .loop .r))
   row =
       let pre = here .before .before .pre .1 in
-      settled-read bytes (here .loop .r) (c .before .row-at .ensures) (pre .3) (pre .2) (c .settled .ensures)
+      conditions-read bytes (here .loop .r) (c .before .row-at .ensures) (pre .3) (pre .2) (c .row-conditions .ensures)
 
-  point : c .settled .result .point ≡ jobPoint bytes (here .loop .r)
-  point = ap (λ (x : SettledRow). x .point) row ∙ settled-point (markAt bytes (here .loop .r)) _ ∙ row-point bytes (here .loop .r)
+  point : c .row-conditions .result .point ≡ jobPoint bytes (here .loop .r)
+  point = ap (λ (x : RowConditions). x .point) row ∙ conditions-point (markAt bytes (here .loop .r)) _ ∙ row-point bytes (here .loop .r)
 
-  speaking : c .settled .result .speaking ≡ flagOf (speaks bytes (here .loop .r))
-  speaking = ap (λ (x : SettledRow). x .speaking) row ∙ settled-speaking (markAt bytes (here .loop .r)) _
+  speaking : c .row-conditions .result .speaking ≡ oneIf (speaks bytes (here .loop .r))
+  speaking = ap (λ (x : RowConditions). x .speaking) row ∙ conditions-speaking (markAt bytes (here .loop .r)) _
 
 -- the same, from where test 5 has run
-abbrev settled : tie.After-is-out-of-range Inv-loop μ-loop → tie.After-settled Inv-loop μ-loop
+abbrev settled : tie.After-is-out-of-range Inv-loop μ-loop → tie.After-row-conditions Inv-loop μ-loop
 settled c = c .before .before .before
 
 -- what it says of test 5
@@ -71,7 +71,7 @@ add-speaking : tie.Need-add-speaking Inv-loop μ-loop
 add-speaking c =
     let a = c .before .before in
     let r = here a .loop .r in
-    let one : a .settled .result .speaking ≤ 1 = rw (row a) (speaking-most (markAt (bytes a) r) (rowAt (bytes a) r)) in
+    let one : a .row-conditions .result .speaking ≤ 1 = rw (row a) (speaking-most (markAt (bytes a) r) (rowAt (bytes a) r)) in
     omega (arith, here a .loop .inv .2, count-most r (speaks (bytes a)), one)
 
 returns : tie.Need-returns Inv-loop μ-loop

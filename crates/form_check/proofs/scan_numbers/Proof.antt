@@ -6,7 +6,7 @@ use native.Mathlib.Omega.{arith}
 use denote.Ref.{now}
 use lib.ListN.{getD, replicate}
 use Rattle.lists.proofs.Filling.{Filled, filled-from, filled-more}
-use Rattle.row_search.proofs.FirstBelow.{Searching, search-start, search-next, search-found, search-end, at-not-nothing}
+use Rattle.lists.proofs.FirstBelow.{Searching, search-start, search-next, search-found, search-end, at-not-nothing}
 use Rattle.rows.specs.declared.Row.{Row}
 use Rattle.rows.specs.Rows.{jobPoint}
 use Rattle.form_check.specs.Steps.{numberTooLarge}

@@ -5,7 +5,7 @@ use mathlib.Core.Path.{_≡_, sym, ap, _∙_}
 use denote.Ref.{now}
 use Rattle.header.specs.Header.{boundsOf}
 use Rattle.job.specs.Refusals.{outOfRange}
-use Rattle.row_search.specs.Search.{firstBelow}
+use Rattle.lists.specs.Search.{firstBelow}
 use Rattle.form_check.specs.Steps.{numberTooLarge, Scanned}
 use Rattle.form_check.proofs.RangeTests.{scanned-below, all-speak, scanned-without}
 use Rattle.form_check.proofs.scan_rows.Statement.{statement}

@@ -11,7 +11,7 @@ returns-2 : tie.Need-returns-2
 returns-2 c = ap reportOf (sym (c .before .outcome .given .1))
 
 returns-3 : tie.Need-returns-3
-returns-3 c = rw (c .number .ensures) (ap reportOf (sym (c .before .before .outcome2 .given .1)))
+returns-3 c = rw (c .refusal-number .ensures) (ap reportOf (sym (c .before .before .outcome2 .given .1)))
 
 pub reported-spec : {M : Type 1} → statement M
 reported-spec =

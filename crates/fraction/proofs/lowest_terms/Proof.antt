@@ -7,18 +7,10 @@ use Rattle.field.proofs.Moduli.{modulus-prime}
 use Rattle.poly.specs.Operations.{scaledOf, lengthOf}
 use Rattle.poly.proofs.Lists.{bounded-mono}
 use Rattle.poly.proofs.Lengths.{bounded-length}
-use Rattle.division.specs.Division.{quotientOf}
+use Rattle.euclid.specs.Division.{quotientOf}
 use Rattle.euclid.specs.Euclid.{gcdOf}
-use Rattle.division.proofs.Leading.{bounded-stored}
-use Rattle.fraction.proofs.Denominators.{
-  unit-is,
-  numerator-scaled,
-  denominator-scaled,
-  divisor-nonzero,
-  quotient-nonzero,
-  quotient-leading,
-  denominator-nonzero,
-}
+use Rattle.euclid.proofs.Leading.{bounded-stored}
+use Rattle.fraction.proofs.Denominators.{unit-is, numerator-scaled, denominator-scaled, divisor-nonzero, quotient-nonzero, quotient-leading, denominator-nonzero}
 use borrow.Author.Needs.{needs}
 use Rattle.fraction.proofs.lowest_terms.Statement.{statement}
 use Rattle.fraction.proofs.lowest_terms.Tie as tie

@@ -5,8 +5,8 @@ use borrow.Author.Needs.{needs}
 use native.Mathlib.Omega.{arith}
 use lib.Dec.{leb, eqb}
 use Rattle.format.specs.Bounds.{numeratorBoundOf}
-use Rattle.row_search.specs.Search.{isFound}
-use Rattle.row_search.proofs.FirstBelow.{Searching, search-start, search-next, search-found, search-end}
+use Rattle.lists.specs.Search.{isFound}
+use Rattle.lists.proofs.FirstBelow.{Searching, search-start, search-next, search-found, search-end}
 use Rattle.header_rules.proofs.bounds_absent.Statement.{statement}
 use Rattle.header_rules.proofs.bounds_absent.Tie as tie
 

@@ -4,13 +4,13 @@ use Prim.Native.Nat.{_+_, _-_, _≤_, _<_}
 use Rattle.field.specs.Primes.{modulusOf}
 use Rattle.field.proofs.Moduli.{modulus-prime, modulus-small}
 use Rattle.montgomery.proofs.Constants.{factor-at}
-use Rattle.poly.specs.Coefficients.{at, Stored}
+use Rattle.poly.specs.Coefficients.{Stored}
 use Rattle.pairs.proofs.PairLaws.{Reached, reached-start}
 use Rattle.lanes_meaning.proofs.Meaning.{constants-are, inverses-are}
 use Rattle.evaluation.proofs.Steps.{at-row, narrow-forms}
-use Rattle.pair_step.specs.Held.{PairHeld, Kept, pairOf, pairsOf}
-use Rattle.pair_step.proofs.Arrays.{held-mono}
-use Rattle.pair_step.proofs.Following.{start-is, start-held, start-kept, kept-step, reached-more}
+use Rattle.pairs.specs.Held.{PairHeld, Kept, pairOf, pairsOf}
+use Rattle.pairs.proofs.Arrays.{held-mono}
+use Rattle.pairs.proofs.Following.{start-is, start-held, start-kept, kept-step, reached-more}
 use borrow.Author.Needs.{needs}
 use native.Mathlib.Omega.{arith}
 use Rattle.interpolation.proofs.after_rows.Statement.{statement}

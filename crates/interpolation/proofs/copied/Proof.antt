@@ -1,6 +1,6 @@
+use lib.ListN.{getD}
 use mathlib.Core.Path.{refl}
 use Prim.Native.Nat.{_-_, _≤_}
-use Rattle.poly.specs.Coefficients.{at}
 use Rattle.lists.proofs.Filling.{Filled, filled-none, filled-more, filled-below}
 use borrow.Author.Needs.{needs}
 use native.Mathlib.Omega.{arith}
@@ -8,7 +8,7 @@ use Rattle.interpolation.proofs.copied.Statement.{statement}
 use Rattle.interpolation.proofs.copied.Tie as tie
 
 abbrev Inv-loop : tie.InvT-loop
-Inv-loop weights r₀ k₀ r k = (k ≤ 32) × Filled 32 (at weights) (λ j. 0) k (r .v)
+Inv-loop weights r₀ k₀ r k = (k ≤ 32) × Filled 32 (λ k. getD weights k 0) (λ j. 0) k (r .v)
 
 abbrev μ-loop : tie.MeasureT-loop
 μ-loop weights r₀ k₀ r k = 32 - k

@@ -1,7 +1,7 @@
+use lib.ListN.{getD}
 use mathlib.Core.Path.{refl}
 use Prim.Native.Nat.{_+_, _-_, _%_, _≤_, _<_}
 use native.Mathlib.Nat.{mod-lt}
-use Rattle.poly.specs.Coefficients.{at}
 use Rattle.lists.proofs.Filling.{Filled, filled-none, filled-more, filled-below}
 use borrow.Author.Needs.{needs}
 use native.Mathlib.Omega.{arith}
@@ -9,7 +9,7 @@ use Rattle.interpolation.proofs.negations.Statement.{statement}
 use Rattle.interpolation.proofs.negations.Tie as tie
 
 abbrev Inv-loop : tie.InvT-loop
-Inv-loop p z rows r₀ k₀ r k = (k ≤ rows) × Filled 32 (λ j. (0 + (p - at z j)) % p) (λ j. 0) k (r .v)
+Inv-loop p z rows r₀ k₀ r k = (k ≤ rows) × Filled 32 (λ j. (0 + (p - getD z j 0)) % p) (λ j. 0) k (r .v)
 
 abbrev μ-loop : tie.MeasureT-loop
 μ-loop p z rows r₀ k₀ r k = rows - k

@@ -1,6 +1,6 @@
 use mathlib.Core.Path.{refl}
 use Rattle.pairs.proofs.PairLaws.{smaller-first, smaller-second}
-use Rattle.pair_step.proofs.Arrays.{narrow-held, bounded-held}
+use Rattle.pairs.proofs.Arrays.{narrow-held, bounded-held}
 use borrow.Author.Needs.{needs}
 use Rattle.interpolation.proofs.solution.Statement.{statement}
 use Rattle.interpolation.proofs.solution.Tie as tie

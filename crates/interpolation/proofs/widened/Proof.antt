@@ -1,15 +1,15 @@
+use lib.ListN.{getD}
 use Prim.Native.Nat.{_≤_, _-_}
 use mathlib.Core.Path.{refl, sym, _∙_}
 use native.Mathlib.Omega.{arith}
 use borrow.Author.Needs.{needs}
-use Rattle.poly.specs.Coefficients.{at}
 use Rattle.lists.proofs.Tabulated.{is-tabulate, at-past}
 use Rattle.lists.proofs.Filling.{Filled, filled-none, filled-more, filled-all}
 use Rattle.interpolation.proofs.widened.Statement.{statement}
 use Rattle.interpolation.proofs.widened.Tie as tie
 
 abbrev Inv-loop : tie.InvT-loop
-Inv-loop a r₀ k₀ r k = (k ≤ 32) × Filled 32 (at a) (λ j. 0) k (r .c)
+Inv-loop a r₀ k₀ r k = (k ≤ 32) × Filled 32 (λ k. getD a k 0) (λ j. 0) k (r .c)
 
 abbrev μ-loop : tie.MeasureT-loop
 μ-loop a r₀ k₀ r k = 32 - k
@@ -24,7 +24,7 @@ returns : tie.Need-returns Inv-loop μ-loop
 returns c =
     let S = c .before .before .before in
     let all = filled-all (c .before .loop .inv .1) (λ j l. at-past (S .args .a .now) j (let s = S .pre .0 in omega arith)) in
-    all ∙ sym (is-tabulate 32 (at (S .args .a .now)) (S .args .a .now) (S .pre .0) (λ k l. refl))
+    all ∙ sym (is-tabulate 32 (λ k. getD (S .args .a .now) k 0) (S .args .a .now) (S .pre .0) (λ k l. refl))
 
 pub widened-spec : {M : Type 1} → statement M
 widened-spec =

@@ -4,7 +4,7 @@ use Rattle.judged_recovery.proofs.recover_and_judge.Statement.{statemen
 use Rattle.judged_recovery.proofs.recover_and_judge.Tie as tie
 
 returns : tie.Need-returns
-returns c = judged-recovery _ _ (c .judge-answer .ensures) _ (c .before .before .before .recover .ensures)
+returns c = judged-recovery _ _ (c .judge .ensures) _ (c .before .before .before .recover .ensures)
 
 pub recover-and-judge-spec : {M : Type 1} → statement M
 recover-and-judge-spec = tie.close (tie.spec (λ c κs. search needs) (λ c κs. search needs) (λ c. search needs) returns)

@@ -1,7 +1,6 @@
 use mathlib.Core.Path.{_≡_, refl}
 use Prim.Native.Nat.{ℕ, _-_, _<_}
-use lib.ListN.{replicate}
-use Rattle.poly.specs.Coefficients.{at}
+use lib.ListN.{getD, replicate}
 use Rattle.lanes.specs.Lanes.{combinedLane}
 use Rattle.lanes.proofs.Changes.{Changing, changing-start, changing-same, changing-next, changing-end, splat, below-lane, splat-below, next-below, reduced-below, combined-is}
 use borrow.Author.Needs.{needs}
@@ -11,7 +10,7 @@ use Rattle.lane_combination.proofs.combine.Tie as tie
 
 abbrev Inv-loop : tie.InvT-loop
 Inv-loop ps from n a₀ b ds dl cs cl start end k₀ a k =
-    Changing start end (combinedLane ps (record { form = at ds 0; low = at dl 0 }) a₀ (record { form = at cs 0; low = at cl 0 }) b) a₀ k a
+    Changing start end (combinedLane ps (record { form = getD ds 0 0; low = getD dl 0 0 }) a₀ (record { form = getD cs 0 0; low = getD cl 0 0 }) b) a₀ k a
 
 abbrev μ-loop : tie.MeasureT-loop
 μ-loop ps from n a₀ b ds dl cs cl start end k₀ a k = end - k
@@ -39,7 +38,7 @@ difference-requires : tie.Need-difference-requires Inv-loop μ-loop
 difference-requires c κs =
     let T = c .before .before .before .before .before in
     let S = T .before .before in
-    let positive : 0 < at (S .args .ps .now) (T .before .loop .k) = below-lane (S .pre .2) _ (lane T) (omega (arith, S .pre .3 .below 0)) in
+    let positive : 0 < getD (S .args .ps .now) (T .before .loop .k) 0 = below-lane (S .pre .2) _ (lane T) (omega (arith, S .pre .3 .below 0)) in
     let one = reduced-below _ _ _ _ positive (c .before .before .product .ensures) in
     let two = reduced-below _ _ _ _ positive (c .product2 .ensures) in
     (one, omega arith)
@@ -49,7 +48,7 @@ loop-again c =
     let T = c .before .before .before .before .before .before in
     let S = T .before .before in
     let inv = T .before .loop .inv in
-    let each : (x : ℕ) → at (replicate 32 x) (T .before .loop .k) ≡ x = λ x. splat x _ (lane T) in
+    let each : (x : ℕ) → getD (replicate 32 x) (T .before .loop .k) 0 ≡ x = λ x. splat x _ (lane T) in
     let value = combined-is (S .args .ps .now) (S .args .a .now) _ _ _ (S .args .b .now) (each _) (each _) (each _) (each _) (changing-same inv)
     (c .before .before .before .product .ensures) (c .before .product2 .ensures) (c .difference .ensures) in
     changing-next inv (c .difference .result) (omega arith) (omega arith) value

@@ -1,8 +1,8 @@
+use lib.ListN.{getD}
 use mathlib.Core.Path.{_≡_, refl}
 use mathlib.Core.List.{_∷_}
 use Prim.Native.Nat.{_-_, _<_}
 use native.Mathlib.Numerals.{add-one}
-use Rattle.poly.specs.Coefficients.{at}
 use Rattle.lanes.specs.Lanes.{modulusAt, linearLane}
 use Rattle.lanes.proofs.Changes.{Changing, changing-start, changing-same, changing-next, changing-end, splat, below-lane, splat-below, next-below, reduced-below, linear-is}
 use borrow.Author.Needs.{needs}
@@ -12,7 +12,7 @@ use Rattle.lane_linear.proofs.times_linear.Tie as tie
 
 abbrev Inv-loop : tie.InvT-loop
 Inv-loop ps n a₀ xs xl end lower₀ k₀ a lower k =
-    Changing 0 end (linearLane ps (record { form = at xs 0; low = at xl 0 }) a₀) a₀ k a × (lower ≡ at (0 ∷ a₀) k) × (lower < modulusAt ps)
+    Changing 0 end (linearLane ps (record { form = getD xs 0 0; low = getD xl 0 0 }) a₀) a₀ k a × (lower ≡ getD (0 ∷ a₀) k 0) × (lower < modulusAt ps)
 
 abbrev μ-loop : tie.MeasureT-loop
 μ-loop ps n a₀ xs xl end lower₀ k₀ a lower k = end - k

@@ -8,14 +8,14 @@ use borrow.Author.Needs.{needs}
 use Rattle.format.specs.declared.Outcome.the-variants.{Accepted}
 use Rattle.header.specs.declared.Header.{Header}
 use Rattle.header.specs.Header.{boundsOf}
-use Rattle.header.proofs.Fields.{narrow, narrow-header}
-use Rattle.word.proofs.Counts.{count-most}
+use Rattle.header.proofs.Fields.{fits-fields, fits-header}
+use Rattle.lists.proofs.Counting.{count-most}
 use Rattle.marked_rows.specs.Marks.{speaks, speakingCount}
-use Rattle.job.specs.declared.reading.Reading.{Reading}
+use Rattle.job.specs.declared.parsed_job.ParsedJob.{ParsedJob}
 use Rattle.job.specs.Form.{formOutcomeOf}
-use Rattle.job.specs.Reading.{readingWith}
+use Rattle.job.specs.ParsedJob.{parsedWith}
 use Rattle.job.proofs.Forms.{form-with-room}
-use Rattle.job.proofs.Laws.{reading-outcome, reading-accepted}
+use Rattle.job.proofs.Laws.{parsed-outcome, parsed-accepted}
 use Rattle.margin.specs.Margin.{excessOf}
 use Rattle.margin.proofs.Laws.{margin-by, margin-refused}
 use Rattle.margin.proofs.margin.Statement.{statement}
@@ -27,7 +27,7 @@ module _ (c : tie.After-read) where
   job = now (c .before .before .args .job)
 
   read : c .read .result .outcome ≡ formOutcomeOf job
-  read = ap (λ (r : Reading). r .outcome) (c .read .ensures) ∙ reading-outcome job 254 ∙ sym (form-with-room job)
+  read = ap (λ (r : ParsedJob). r .outcome) (c .read .ensures) ∙ parsed-outcome job 254 ∙ sym (form-with-room job)
 
 returns : tie.Need-returns
 returns c =
@@ -41,19 +41,19 @@ module _ (c : tie.After-enum-told) where
   accepted : formOutcomeOf (job here) ≡ Accepted
   accepted = sym (read here) ∙ c .enum-told .given .1
 
-  whole : here .read .result ≡ readingWith Accepted (job here)
-  whole = here .read .ensures ∙ reading-accepted (job here) 254 (sym (form-with-room (job here)) ∙ accepted)
+  whole : here .read .result ≡ parsedWith Accepted (job here)
+  whole = here .read .ensures ∙ parsed-accepted (job here) 254 (sym (form-with-room (job here)) ∙ accepted)
 
   speaking-few : speakingCount (job here) ≤ 31
   unfolding speakingCount
-  speaking-few = omega (arith, count-most (boundsOf (job here) .rows) (speaks (job here)), narrow (job here) .rows-most)
+  speaking-few = omega (arith, count-most (boundsOf (job here) .rows) (speaks (job here)), fits-fields (job here) .rows-most)
 
 returns-2 : tie.Need-returns-2
 returns-2 c =
     let read = c .before in
     let told = read .before .before in
     let wrong = told .before .before .before .before .args .wrong in
-    let margin : Reading → Header → ℕ = λ r h. excessOf (r .speaking) (h .df + r .bounds .dg + 2 * wrong) in
+    let margin : ParsedJob → Header → ℕ = λ r h. excessOf (r .speaking) (h .df + r .bounds .dg + 2 * wrong) in
     c .excess .ensures ∙ ap₂ margin (whole told) (read .read-header .ensures) ∙ sym (margin-by (job (here told)) wrong (accepted told))
 
 excess-requires : tie.Need-excess-requires
@@ -61,9 +61,9 @@ excess-requires c κs =
     let told = c .before .before in
     let fields = whole told in
     let s = job (here told) in (
-      omega (arith, ap (λ (r : Reading). r .speaking) fields, speaking-few told),
-      omega (arith, ap (λ (h : Header). h .df) (c .read-header .ensures), narrow-header s .df-most),
-      omega (arith, ap (λ (r : Reading). r .bounds .dg) fields, narrow s .dg-most),
+      omega (arith, ap (λ (r : ParsedJob). r .speaking) fields, speaking-few told),
+      omega (arith, ap (λ (h : Header). h .df) (c .read-header .ensures), fits-header s .df-most),
+      omega (arith, ap (λ (r : ParsedJob). r .bounds .dg) fields, fits-fields s .dg-most),
     )
 
 pub margin-spec : {M : Type 1} → statement M

@@ -6,8 +6,8 @@ use borrow.Author.Tests.{eq-eqb, ne-eqb}
 use native.Mathlib.Omega.{arith}
 use lib.Dec.{eqb}
 use lib.ListN.{getD}
-use Rattle.row_search.specs.Search.{isFound}
-use Rattle.row_search.proofs.FirstBelow.{Searching, search-start, search-next, search-found, search-end}
+use Rattle.lists.specs.Search.{isFound}
+use Rattle.lists.proofs.FirstBelow.{Searching, search-start, search-next, search-found, search-end}
 use Rattle.marked_rows.proofs.all_are.Statement.{statement}
 use Rattle.marked_rows.proofs.all_are.Tie as tie
 

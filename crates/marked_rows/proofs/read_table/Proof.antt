@@ -10,16 +10,16 @@ use lib.Dec.{ltb}
 use borrow.Author.Tests.{lt-ltb, le-ltb}
 use lib.ListN.{getD}
 use Rattle.lists.proofs.Filling.{Filled, filled-none, filled-more, filled-all}
-use Rattle.word.specs.Word.{countBelow}
-use Rattle.word.proofs.Counts.{count-most}
+use Rattle.lists.specs.Counting.{countBelow}
+use Rattle.lists.proofs.Counting.{count-most}
 use Rattle.header.specs.Header.{boundsOf}
 use Rattle.rows.specs.Rows.{jobPoint, valueOrZero}
 use Rattle.rows.specs.Steps.{rowAt}
-use Rattle.marked_rows.specs.declared.SettledRow.{SettledRow}
+use Rattle.marked_rows.specs.declared.RowConditions.{RowConditions}
 use Rattle.marked_rows.specs.Marks.{markAt, speaks, speakingCount}
-use Rattle.marked_rows.specs.Table.{weightOf, sideOf, settledBy, jobPoints, jobWeights, jobValues}
+use Rattle.marked_rows.specs.Table.{weightOf, rightSideOf, conditionsBy, jobPoints, jobWeights, jobValues}
 use Rattle.marked_rows.proofs.Filling.{fill-four}
-use Rattle.marked_rows.proofs.Entries.{settled-read, settled-point, settled-weight, settled-speaking, speaking-most, settled-values}
+use Rattle.marked_rows.proofs.Entries.{conditions-read, conditions-point, conditions-weight, conditions-speaking, speaking-most, conditions-values}
 use Rattle.marked_rows.proofs.read_table.Statement.{statement}
 use Rattle.marked_rows.proofs.read_table.Tie as tie
 
@@ -28,7 +28,7 @@ Inv-loop job start rows outputs marks points₀ weights₀ values₀ speaking₀
     (r ≤ rows)
     × Filled 32 (λ k. cond (ltb k (boundsOf job .rows)) (jobPoint job k) 0) (λ k. 0) r points
     × Filled 32 (λ k. cond (ltb k (boundsOf job .rows)) (weightOf (markAt job k)) 0) (λ k. 0) r weights
-    × Filled 128 (λ k. cond (ltb (k / 4) (boundsOf job .rows)) (sideOf (markAt job (k / 4)) (valueOrZero job (k / 4) (k % 4))) 0) (λ k. 0) (r * 4) values
+    × Filled 128 (λ k. cond (ltb (k / 4) (boundsOf job .rows)) (rightSideOf (markAt job (k / 4)) (valueOrZero job (k / 4) (k % 4))) 0) (λ k. 0) (r * 4) values
     × (speaking ≡ countBelow r (speaks job))
 
 abbrev μ-loop : tie.MeasureT-loop
@@ -42,21 +42,21 @@ point : (s : List ℕ) (r : ℕ) → rowAt s r .point ≡ jobPoint s r
 unfolding rowAt
 point s r = refl
 
--- the row that was settled
+-- the row by its conditions
 row-read : (c : tie.After-struct-known Inv-loop μ-loop)
     → let a = c .before .before .before .before .before in
     let s = now (a .before .before .args .job) in
-    c .before .before .settled .result ≡ settledBy (markAt s (a .loop .r)) (rowAt s (a .loop .r))
+    c .before .before .row-conditions .result ≡ conditionsBy (markAt s (a .loop .r)) (rowAt s (a .loop .r))
 row-read c =
     let a = c .before .before .before .before .before in
-    settled-read (now (a .before .before .args .job)) (a .loop .r) (c .before .before .before .row-at .ensures) (a .before .before .pre .1 .3) (a .before .before .pre .1 .2)
-    (c .before .before .settled .ensures)
+    conditions-read (now (a .before .before .args .job)) (a .loop .r) (c .before .before .before .row-at .ensures) (a .before .before .pre .1 .3) (a .before .before .pre .1 .2)
+    (c .before .before .row-conditions .ensures)
 
 add-speaking : tie.Need-add-speaking Inv-loop μ-loop
 add-speaking c =
     let a = c .before .before .before .before .before in
     let s = now (a .before .before .args .job) in
-    let one : c .before .before .settled .result .speaking ≤ 1 = rw (row-read c) (speaking-most (markAt s (a .loop .r)) (rowAt s (a .loop .r))) in
+    let one : c .before .before .row-conditions .result .speaking ≤ 1 = rw (row-read c) (speaking-most (markAt s (a .loop .r)) (rowAt s (a .loop .r))) in
     omega (arith, a .loop .inv .4, count-most (a .loop .r) (speaks s), one)
 
 loop-again : tie.Need-loop-again Inv-loop μ-loop
@@ -70,10 +70,10 @@ loop-again c =
     let row = row-read c in
     let mark = markAt s r in (
       omega arith,
-      filled-more (a .loop .inv .1) _ (omega arith) (ap (λ (x : SettledRow). x .point) row ∙ settled-point mark (rowAt s r) ∙ point s r ∙ sym (simp (lt-ltb r _ there))),
-      filled-more (a .loop .inv .2) _ (omega arith) (ap (λ (x : SettledRow). x .weight) row ∙ settled-weight mark (rowAt s r) ∙ sym (simp (lt-ltb r _ there))),
-      rw (← next) (fill-four (a .loop .inv .3) (c .before .before .settled .result .values) (omega arith) (λ i l. ap (λ (x : SettledRow). getD (x .values) i 0) row ∙ settled-values s r i l ∙ sym (simp (lt-ltb ((r * 4 + i) / 4) (boundsOf s .rows) (omega arith))))),
-      rw (a .loop .inv .4, ap (λ (x : SettledRow). x .speaking) row, settled-speaking mark (rowAt s r), add-one r) refl,
+      filled-more (a .loop .inv .1) _ (omega arith) (ap (λ (x : RowConditions). x .point) row ∙ conditions-point mark (rowAt s r) ∙ point s r ∙ sym (simp (lt-ltb r _ there))),
+      filled-more (a .loop .inv .2) _ (omega arith) (ap (λ (x : RowConditions). x .weight) row ∙ conditions-weight mark (rowAt s r) ∙ sym (simp (lt-ltb r _ there))),
+      rw (← next) (fill-four (a .loop .inv .3) (c .before .before .row-conditions .result .values) (omega arith) (λ i l. ap (λ (x : RowConditions). getD (x .values) i 0) row ∙ conditions-values s r i l ∙ sym (simp (lt-ltb ((r * 4 + i) / 4) (boundsOf s .rows) (omega arith))))),
+      rw (a .loop .inv .4, ap (λ (x : RowConditions). x .speaking) row, conditions-speaking mark (rowAt s r), add-one r) refl,
     )
 
 returns : tie.Need-returns Inv-loop μ-loop

@@ -15,8 +15,8 @@ use Rattle.poly.specs.Vectors.{coefficientsAt}
 use Rattle.problem.specs.Reduced.{Same}
 use Rattle.problem.specs.Answers.{Within}
 use Rattle.problem.proofs.Same.{same-sym, same-if-equal, within-same, reduced-same}
-use Rattle.coefficients.specs.Coefficients.{coefficientLengthOf, denominatorOf, numeratorOf, anyTooLarge}
-use Rattle.coefficients.proofs.Ranges.{not-large, denominator-bounded, numerator-bounded, denominator-stored, numerator-stored}
+use Rattle.answer.specs.Coefficients.{coefficientLengthOf, denominatorOf, numeratorOf, anyTooLarge}
+use Rattle.answer.proofs.Ranges.{not-large, denominator-bounded, numerator-bounded, denominator-stored, numerator-stored}
 use Rattle.offered_answer.specs.Tests.{offeredDenominator, offeredNumerator}
 use Rattle.offered_answer.proofs.Testing.{agree-same}
 use Rattle.offered_answer.proofs.passes.Statement.{statement}

@@ -6,22 +6,23 @@ use native.Mathlib.Omega.{arith}
 use borrow.Author.Tests.{not-true, not-false}
 use lib.ListN.{length}
 use Rattle.format.specs.declared.Outcome.the-variants.{Accepted}
-use Rattle.format.specs.Bounds.{Storable, answerLengthOf, Sized}
+use Rattle.format.specs.Bounds.{FitsPolynomials, answerLengthOf, EnoughRows}
 use Rattle.header.specs.Header.{boundsOf}
 use Rattle.marked_rows.specs.Marks.{speakingCount}
 use Rattle.marked_rows.specs.Table.{jobPoints, jobWeights, jobValues}
-use Rattle.job.specs.declared.reading.Reading.{Reading}
+use Rattle.job.specs.declared.parsed_job.ParsedJob.{ParsedJob}
 use Rattle.job.specs.Refusals.{WellFormed}
-use Rattle.job.specs.Reading.{readingWith}
+use Rattle.job.specs.ParsedJob.{parsedWith}
 use Rattle.job.proofs.Facts.{well-formed-facts}
-use Rattle.job.proofs.Laws.{reading-accepted, answer-length-most}
+use Rattle.job.proofs.Laws.{parsed-accepted, answer-length-most}
 use Rattle.poly.specs.Vectors.{coefficientsAt}
-use Rattle.answer.specs.Bytes.{answerBytes, overwritten}
-use Rattle.candidate.specs.Candidates.{Table}
+use Rattle.answer.specs.Bytes.{answerBytes}
+use Rattle.lists.specs.Overwriting.{overwritten}
+use Rattle.candidate.specs.Candidates.{RowsInRange}
 use Rattle.solver.specs.Solutions.{solutionFor}
-use Rattle.problem_meaning.proofs.AnswerMeaning.{sized}
-use Rattle.recovery.proofs.Settlement.{table}
-use Rattle.solver.proofs.SolutionLaws.{storable}
+use Rattle.soundness.proofs.AnswerMeaning.{enough-rows}
+use Rattle.recovery.proofs.Settlement.{rows-in-range}
+use Rattle.solver.proofs.SolutionLaws.{fits-polynomials}
 use Rattle.recovery.proofs.Settling.{outcome-read, settle-early, settle-unsolved, settle-solved}
 use borrow.Author.Needs.{needs}
 use Rattle.recovery.proofs.recover.Statement.{statement}
@@ -48,19 +49,19 @@ module _ (c : tie.After-enum-told) where
   well-formed = sym (outcome-read (job here) (area here) (here .read .result) (here .read .ensures)) ∙ c .enum-told .given .1
 
   accepted : here .read .result
-      ≡ readingWith Accepted (job here)
-  accepted = here .read .ensures ∙ reading-accepted (job here) (length (area here)) well-formed
+      ≡ parsedWith Accepted (job here)
+  accepted = here .read .ensures ∙ parsed-accepted (job here) (length (area here)) well-formed
 
 -- what the solver returned, from the job's own bytes
 solution : (v : tie.After-solve) → let d = v .before .before .before .before .before in
     v .solve .result ≡ solutionFor (boundsOf (job (here d))) (speakingCount (job (here d))) (jobPoints (job (here d))) (jobWeights (job (here d))) (jobValues (job (here d)))
-solution v = v .solve .ensures ∙ ap (λ (r : Reading). solutionFor (r .bounds) (r .speaking) (r .points) (r .weights) (r .values)) (accepted (v .before .before .before .before .before))
+solution v = v .solve .ensures ∙ ap (λ (r : ParsedJob). solutionFor (r .bounds) (r .speaking) (r .points) (r .weights) (r .values)) (accepted (v .before .before .before .before .before))
 
 solve-requires : tie.Need-solve-requires
 solve-requires c κs =
     let d = c .before .before .before .before in
     let W = well-formed-facts (job (here d)) (length (area (here d))) (well-formed d) in
-    subst (λ (r : Reading). Sized (r .bounds) × Table (r .bounds) (r .speaking) (r .points) (r .weights)) (sym (accepted d)) (sized (job (here d)) W, table (job (here d)) W)
+    subst (λ (r : ParsedJob). EnoughRows (r .bounds) × RowsInRange (r .bounds) (r .speaking) (r .points) (r .weights)) (sym (accepted d)) (enough-rows (job (here d)) W, rows-in-range (job (here d)) W)
 
 returns-2 : tie.Need-returns-2
 returns-2 c =
@@ -72,8 +73,8 @@ write-requires : tie.Need-write-requires
 write-requires c κs =
     let d = c .before .before .before .before .before .before .before .before .before .before in
     let W = well-formed-facts (job (here d)) (length (area (here d))) (well-formed d) in
-    subst (λ (r : Reading). Storable (r .bounds) × (answerLengthOf (r .bounds) ≤ length (area (here d)))) (sym (accepted d))
-    (storable (sized (job (here d)) W), W .enough-area)
+    subst (λ (r : ParsedJob). FitsPolynomials (r .bounds) × (answerLengthOf (r .bounds) ≤ length (area (here d)))) (sym (accepted d))
+    (fits-polynomials (enough-rows (job (here d)) W), W .enough-area)
 
 -- what was written, and how much of it
 module _ (c : tie.After-slice-known2) where
@@ -84,7 +85,7 @@ module _ (c : tie.After-slice-known2) where
   told = w .before .before .before .before .before .before .before .before .before .before .before
 
   bytes-are : w .write .result ≡ answerLengthOf (boundsOf (job (here told)))
-  bytes-are = w .write .ensures .0 ∙ ap (λ (r : Reading). answerLengthOf (r .bounds)) (accepted told)
+  bytes-are = w .write .ensures .0 ∙ ap (λ (r : ParsedJob). answerLengthOf (r .bounds)) (accepted told)
 
 cast-bytes : tie.Need-cast-bytes
 cast-bytes c =
@@ -99,7 +100,7 @@ returns-3 c =
     let t = v .solve .result in
     settle-solved (job (here d)) (area (here d)) (well-formed d) t (solution v) (not-false _ (w c .before .before .before .before .if1 .left)) _ (bytes-are c)
     (w c .write .last .0)
-    (w c .write .ensures .1 ∙ ap (λ (r : Reading). overwritten (answerBytes (r .bounds) (t .word) (t .g .c) (coefficientsAt (t .f))) (area (here d))) (accepted d))
+    (w c .write .ensures .1 ∙ ap (λ (r : ParsedJob). overwritten (answerBytes (r .bounds) (t .word) (t .g .c) (coefficientsAt (t .f))) (area (here d))) (accepted d))
 
 pub recover-spec : {M : Type 1} → statement M
 recover-spec =

@@ -6,7 +6,7 @@ use Rattle.field.specs.Primes.{modulusOf}
 use Rattle.field.proofs.Moduli.{modulus-prime}
 use Rattle.poly.specs.Coefficients.{Stored}
 use Rattle.poly.specs.Vectors.{coefficientsAt}
-use Rattle.division.proofs.Leading.{stored-bounded}
+use Rattle.euclid.proofs.Leading.{stored-bounded}
 use Rattle.euclid.specs.Euclid.{gcdOf}
 use Rattle.reduced.specs.CommonDivisor.{commonDivisorOf}
 use Rattle.reduced.proofs.CommonDivisors.{stored-full, common-next, common-stored}

@@ -2,14 +2,13 @@
 use mathlib.Core.Path.{_≡_, sym, ap, _∙_}
 use Prim.Native.Nat.{ℕ, _-_}
 use native.Mathlib.Omega.{arith}
-use lib.ListN.{length}
+use lib.ListN.{getD, length}
 use borrow.Author.Needs.{needs}
 use borrow.Author.Tests.{eqb-true, eq-eqb}
 use Rattle.field.specs.Primes.{modulusOf}
 use Rattle.field.proofs.Moduli.{modulus-prime}
 use Rattle.lists.proofs.Tabulated.{at-past}
 use Rattle.lists.proofs.Truth.{refuted}
-use Rattle.poly.specs.Coefficients.{at}
 use Rattle.poly.specs.Vectors.{coefficientsAt}
 use Rattle.poly.specs.Operations.{lengthOf}
 use Rattle.reduced.specs.CommonDivisor.{commonDivisorOf}
@@ -29,7 +28,7 @@ returns-2 : tie.Need-returns-2
 returns-2 c =
     let A = c .before .before .before in
     let g = A .before .args .t3 .c in
-    refuted (λ r. c .if2 .taken (ap (λ (n : ℕ). at g (n - 1)) (A .length .ensures .0) ∙ leading-top (r .monic)))
+    refuted (λ r. c .if2 .taken (ap (λ (n : ℕ). getD g (n - 1) 0) (A .length .ensures .0) ∙ leading-top (r .monic)))
 
 length-requires-2 : tie.Need-length-requires-2
 length-requires-2 c κs =
@@ -45,7 +44,7 @@ returns-3 c =
     let f = coefficientsAt (S .args .f) in
     let g = S .args .t3 .c in
     let nonzero : lengthOf g ≡ 0 → ⊥ = (λ z. E .before .before .if1 .left (A .length .ensures .0 ∙ z)) in
-    let top : at g (lengthOf g - 1) ≡ 1 = ap (λ (n : ℕ). at g (n - 1)) (sym (A .length .ensures .0)) ∙ E .if2 .left in
+    let top : getD g (lengthOf g - 1) 0 ≡ 1 = ap (λ (n : ℕ). getD g (n - 1) 0) (sym (A .length .ensures .0)) ∙ E .if2 .left in
     let d = commonDivisorOf (modulusOf (S .args .q)) f g (S .args .outputs) in
     let e : c .length2 .result ≡ lengthOf d = c .length2 .ensures .0 ∙ ap lengthOf (c .before .common-divisor .ensures) in (
       λ t. constant-reduced _ P _ f (S .pre .1) (S .pre .2) nonzero top (sym e ∙ eqb-true _ _ t),

@@ -6,8 +6,8 @@ use native.Mathlib.Omega.{arith}
 use lib.Dec.{eqb}
 use lib.ListN.{getD}
 use mir.Val.{boolByte}
-use Rattle.word.specs.Word.{flagOf, countBelow}
-use Rattle.word.proofs.Counts.{count-step, count-most}
+use Rattle.lists.specs.Counting.{oneIf, countBelow}
+use Rattle.lists.proofs.Counting.{count-step, count-most}
 use Rattle.row_search.proofs.count_of.Statement.{statement}
 use Rattle.row_search.proofs.count_of.Tie as tie
 
@@ -22,7 +22,7 @@ unfolding countBelow
 loop-holds c = (omega arith, refl)
 
 -- a test's truth value as a number
-flag : (b : Bool) → boolByte b ≡ flagOf b
+flag : (b : Bool) → boolByte b ≡ oneIf b
 flag true = refl
 flag false = refl
 

@@ -1,6 +1,6 @@
 use borrow.Author.Needs.{needs}
 use mathlib.Core.Path.{sym}
-use Rattle.row_search.proofs.Distinct.{none-repeated}
+use Rattle.lists.proofs.Distinct.{none-repeated}
 use Rattle.row_search.proofs.first_repeated.Statement.{statement}
 use Rattle.row_search.proofs.first_repeated.Tie as tie
 

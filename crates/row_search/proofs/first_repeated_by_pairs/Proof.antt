@@ -4,8 +4,8 @@ use borrow.Author.Needs.{needs}
 use native.Mathlib.Omega.{arith}
 use lib.Dec.{eqb}
 use lib.ListN.{getD}
-use Rattle.row_search.specs.Search.{anyBelow}
-use Rattle.row_search.proofs.FirstBelow.{Searching, search-start, search-next, search-found, search-end}
+use Rattle.lists.specs.Search.{anyBelow}
+use Rattle.lists.proofs.FirstBelow.{Searching, search-start, search-next, search-found, search-end}
 use Rattle.row_search.proofs.first_repeated_by_pairs.Statement.{statement}
 use Rattle.row_search.proofs.first_repeated_by_pairs.Tie as tie
 

@@ -3,7 +3,7 @@ use mathlib.Core.Path.{sym}
 use borrow.Author.Needs.{needs}
 use native.Mathlib.Omega.{arith}
 use Rattle.lists.proofs.Truth.{clash}
-use Rattle.row_search.proofs.Distinct.{Rising, rising-one, rising-more, rising-distinct}
+use Rattle.lists.proofs.Distinct.{Rising, rising-one, rising-more, rising-distinct}
 use Rattle.row_search.proofs.rise.Statement.{statement}
 use Rattle.row_search.proofs.rise.Tie as tie
 

@@ -7,8 +7,8 @@ use native.Mathlib.Omega.{arith}
 use lib.Dec.{eqb}
 use lib.ListN.{getD}
 use Rattle.lists.proofs.Truth.{clash}
-use Rattle.word.specs.Word.{countBelow}
-use Rattle.row_search.proofs.Distinct.{once-distinct}
+use Rattle.lists.specs.Counting.{countBelow}
+use Rattle.lists.proofs.Distinct.{once-distinct}
 use Rattle.row_search.proofs.single.Statement.{statement}
 use Rattle.row_search.proofs.single.Tie as tie
 

@@ -5,8 +5,8 @@ use borrow.Author.Tests.{eq-eqb, ne-eqb}
 use native.Mathlib.Omega.{arith}
 use lib.Dec.{eqb}
 use lib.ListN.{getD}
-use Rattle.row_search.specs.Search.{isFound}
-use Rattle.row_search.proofs.FirstBelow.{Searching, search-start, search-next, search-found, search-end}
+use Rattle.lists.specs.Search.{isFound}
+use Rattle.lists.proofs.FirstBelow.{Searching, search-start, search-next, search-found, search-end}
 use Rattle.row_search.proofs.stands_earlier.Statement.{statement}
 use Rattle.row_search.proofs.stands_earlier.Tie as tie
 

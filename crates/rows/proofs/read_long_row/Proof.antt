@@ -10,14 +10,14 @@ use native.Mathlib.Omega.{arith}
 use denote.Ref.{now}
 use Rattle.format.specs.Numbers.{numberFrom}
 use Rattle.lists.specs.Tabulated.{tabulate}
-use Rattle.row_word.specs.Words.{partOf}
-use Rattle.row_word.proofs.Parts.{parts}
+use Rattle.read_u64.specs.Words.{partOf}
+use Rattle.read_u64.proofs.Parts.{parts}
 use Rattle.rows.specs.declared.Row.{Row}
 use Rattle.rows.specs.Steps.{rowOf}
 use Rattle.rows.proofs.read_long_row.Statement.{statement}
 use Rattle.rows.proofs.read_long_row.Tie as tie
 
-module _ (c : tie.After-word-from) where
+module _ (c : tie.After-read-u64) where
   abbrev bytes : List ℕ
   bytes = now (c .before .before .args .bytes)
 
@@ -25,14 +25,14 @@ module _ (c : tie.After-word-from) where
   outputs = c .before .before .args .outputs
 
   -- part j of the word is the row's number j
-  number : (j : ℕ) {r : ℕ} → j < 4 → r ≡ partOf (c .word-from .result) j → r ≡ numberFrom bytes (2 * j)
+  number : (j : ℕ) {r : ℕ} → j < 4 → r ≡ partOf (c .read-u64 .result) j → r ≡ numberFrom bytes (2 * j)
   number j l e =
       e
-      ∙ ap (λ (w : ℕ). partOf w j) (c .word-from .ensures)
+      ∙ ap (λ (w : ℕ). partOf w j) (c .read-u64 .ensures)
       ∙ parts bytes (λ k. c .before .shared-slice-known .given k .fits) 0 j l
       ∙ ap (numberFrom bytes) (zero-add (2 * j))
 
-  value : (i : ℕ) {r : ℕ} → i < 3 → r ≡ partOf (c .word-from .result) (1 + i) → r ≡ cond (ltb i outputs) (numberFrom bytes (2 * (1 + i))) 0
+  value : (i : ℕ) {r : ℕ} → i < 3 → r ≡ partOf (c .read-u64 .result) (1 + i) → r ≡ cond (ltb i outputs) (numberFrom bytes (2 * (1 + i))) 0
   value i l e = let there = lt-ltb i outputs (omega arith) in rw there (number (1 + i) (omega arith) e)
 
 -- the row, with the number that is left over

@@ -2,8 +2,8 @@ use mathlib.Core.Path.{_≡_, ap, _∙_}
 use native.Mathlib.Omega.{arith}
 use borrow.Author.Tests.{not-true, not-false}
 use Rattle.solver.specs.Solutions.{wordBy, judgedSolution}
-use Rattle.word.specs.Word.{wrongCountOf}
-use Rattle.solver.proofs.SolutionLaws.{storable, fits-judge, judged-unsolvable, judged-solvable, counted-many, counted-few}
+use Rattle.row_mask.specs.Word.{wrongCountOf}
+use Rattle.solver.proofs.SolutionLaws.{fits-polynomials, fits-judge, judged-unsolvable, judged-solvable, counted-many, counted-few}
 use borrow.Author.Needs.{needs}
 use Rattle.solver.proofs.solve.Statement.{statement}
 use Rattle.solver.proofs.solve.Tie as tie
@@ -18,7 +18,7 @@ returns c =
 wrong-rows-requires : tie.Need-wrong-rows-requires
 wrong-rows-requires c κs =
     let a = c .before .before .before .before in
-    (omega (arith, a .before .pre .0 .rows), storable (a .before .pre .0), fits-judge (a .after-outputs .ensures .1))
+    (omega (arith, a .before .pre .0 .rows), fits-polynomials (a .before .pre .0), fits-judge (a .after-outputs .ensures .1))
 
 -- the word that was computed is the candidate's
 word-is : (r : tie.After-wrong-rows) → let a = r .before .before .before .before .before in let g = a .before .args in

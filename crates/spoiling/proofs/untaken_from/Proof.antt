@@ -7,8 +7,8 @@ use borrow.Author.Needs.{scaled-fits}
 use borrow.Author.Tests.{eq-eqb, ne-eqb}
 use lib.Dec.{eqb, lit<}
 use lib.ListN.{getD}
-use Rattle.row_search.specs.declared.Found.{Found}
-use Rattle.row_search.proofs.FirstBelow.{Searching, search-start, search-next, search-found, search-end}
+use Rattle.lists.specs.declared.Found.{Found}
+use Rattle.lists.proofs.FirstBelow.{Searching, search-start, search-next, search-found, search-end}
 use Rattle.spoiling.specs.Spoiling.{numberIn, untakenFrom}
 use Rattle.spoiling.proofs.untaken_from.Statement.{statement}
 use Rattle.spoiling.proofs.untaken_from.Tie as tie

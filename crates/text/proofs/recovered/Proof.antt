@@ -4,7 +4,7 @@ use mathlib.Core.List.{[], _++_}
 use native.Mathlib.Nat.{lt-suc-self}
 use lib.ListN.{length}
 use Rattle.format.specs.Numbers.{wordFrom}
-use Rattle.word.specs.Word.{marked}
+use Rattle.row_mask.specs.Word.{isSet}
 use Rattle.text.specs.Drafts.{textRoom, extended}
 use Rattle.text.specs.Decimal.{decimalOf}
 use Rattle.text.specs.Lines.{lineFeed, rowItems, coefficientFrom, coefficientsLine, outputLines, marginLine}
@@ -47,7 +47,7 @@ returns c =
     let wrong = s .args .wrong in
     let margin = s .args .margin in
     let area = s .args .area .now in
-    let rows = rowItems 32 0 (marked (wordFrom area)) in
+    let rows = rowItems 32 0 (isSet (wordFrom area)) in
     let line = coefficientsLine (coefficientFrom area 4) (b .dg) in
     let one = recoveredLabel ++ decimalOf wrong ++ lineFeed in
     let two = one ++ wrongLabel ++ rows ++ lineFeed in
@@ -57,7 +57,7 @@ returns c =
     let e2 = put-onto recoveredLabel (decimalOf wrong) e1 (counted .put-decimal .ensures (suc wrong) (lt-suc-self wrong)) in
     let e3 = put-onto (recoveredLabel ++ decimalOf wrong) lineFeed e2 (first .put-byte .ensures) in
     let e4 = put-onto one wrongLabel e3 (named-second .put-label2 .ensures) in
-    let marks = listing .put-rows .ensures ∙ ap (λ w. extended (named-second .put-label2 .result) (rowItems 32 0 (marked w))) (word .word-from .ensures) in
+    let marks = listing .put-rows .ensures ∙ ap (λ w. extended (named-second .put-label2 .result) (rowItems 32 0 (isSet w))) (word .read-word .ensures) in
     let e5 = put-onto (one ++ wrongLabel) rows e4 marks in
     let e6 = put-onto (one ++ wrongLabel ++ rows) lineFeed e5 (second .put-byte2 .ensures) in
     let e7 = put-onto two denominatorLabel e6 (named-third .put-label3 .ensures) in

@@ -13,7 +13,7 @@ returns-2 c =
 returns-3 : tie.Need-returns-3
 returns-3 c =
     let s = c .before .before .before .before .before .before .args in
-    let line = rw (c .before .number .ensures) at (c .refused .ensures) in
+    let line = rw (c .before .refusal-number .ensures) at (c .refused .ensures) in
     subst (λ o. Spells (c .refused .result) (textOf (s .b) o (s .margin) (s .area .now))) (sym (c .before .before .before .outcome2 .given .1)) line
 
 pub text-of-spec : {M : Type 1} → statement M

@@ -2,9 +2,9 @@ use mathlib.Core.Path.{_≡_, sym, ap, _∙_}
 use mathlib.Core.Bool.{true}
 use borrow.Author.Tests.{not-true, not-false}
 use Rattle.lists.proofs.Truth.{clash}
-use Rattle.answer.specs.Bytes.{overwritten}
-use Rattle.text.specs.Text.{isStorable}
-use Rattle.text.proofs.Writing.{storable-true, told-malformed, told-short, told-bytes}
+use Rattle.lists.specs.Overwriting.{overwritten}
+use Rattle.text.specs.Text.{fitsOf}
+use Rattle.text.proofs.Writing.{fits-true, told-malformed, told-short, told-bytes}
 use borrow.Author.Needs.{needs}
 use native.Mathlib.Omega.{arith}
 use Rattle.text.proofs.write_text.Statement.{statement}
@@ -13,15 +13,15 @@ use Rattle.text.proofs.write_text.Tie as tie
 returns : tie.Need-returns
 returns c =
     let g = c .before .before .before .before .args in
-    let bad = sym (c .before .storable .ensures) ∙ not-true _ (c .if1 .taken) in
+    let bad = sym (c .before .bounds-fit .ensures) ∙ not-true _ (c .if1 .taken) in
     let told = told-malformed (g .bounds) (g .outcome) (g .margin) (g .area .now) (g .buffer .now) bad in
     (told .0, told .1, λ e. clash (sym e ∙ bad))
 
-good : (c : tie.Else1) → isStorable (c .before .before .before .before .args .bounds) ≡ true
-good c = sym (c .before .storable .ensures) ∙ not-false _ (c .if1 .left)
+good : (c : tie.Else1) → fitsOf (c .before .before .before .before .args .bounds) ≡ true
+good c = sym (c .before .bounds-fit .ensures) ∙ not-false _ (c .if1 .left)
 
 text-of-requires : tie.Need-text-of-requires
-text-of-requires c κs = storable-true (c .before .before .before .before .args .bounds) (good c)
+text-of-requires c κs = fits-true (c .before .before .before .before .args .bounds) (good c)
 
 returns-2 : tie.Need-returns-2
 returns-2 c =

@@ -4,8 +4,8 @@ use native.Mathlib.Nat.{le-refl}
 use native.Mathlib.Omega.{arith}
 use lib.ListN.{length, length-set}
 use lib.Seq.{paste, paste-zero, take-length}
-use Rattle.answer.specs.Bytes.{overwritten}
-use Rattle.answer.proofs.Copies.{copy-next, copy-all}
+use Rattle.lists.specs.Overwriting.{overwritten}
+use Rattle.lists.proofs.Copies.{copy-next, copy-all}
 use Rattle.trial.proofs.put_header.Statement.{statement}
 use Rattle.trial.proofs.put_header.Tie as tie
 

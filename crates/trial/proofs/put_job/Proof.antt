@@ -6,8 +6,9 @@ use lib.ListN.{length, getD}
 use Rattle.field.proofs.Moduli.{modulus-prime}
 use Rattle.format.specs.Bounds.{primeOf}
 use Rattle.poly.specs.Vectors.{coefficientsAt}
-use Rattle.answer.specs.Bytes.{coefficientBytes, spliced}
-use Rattle.trial_rows.specs.Rows.{trialNumbers}
+use Rattle.answer.specs.Bytes.{coefficientBytes}
+use Rattle.lists.specs.Overwriting.{spliced}
+use Rattle.trial.specs.Rows.{trialNumbers}
 use Rattle.spoiling.specs.Spoiling.{addedBy}
 use Rattle.spoiling.proofs.Added.{added-at, added-below}
 use Rattle.trial.proofs.Writing.{behind-header}

@@ -12,24 +12,24 @@ use Rattle.format.specs.declared.Reason.{Reason}
 use Rattle.format.specs.declared.Outcome.the-variants.{Accepted, Refused}
 use Rattle.header.specs.declared.Header.{Header}
 use Rattle.header.specs.Header.{boundsOf, headerOf, jobLengthOf}
-use Rattle.header.proofs.Fields.{narrow, narrow-header, rows-bytes, storable}
+use Rattle.header.proofs.Fields.{fits-fields, fits-header, rows-bytes, fits-polynomials}
 use Rattle.lists.proofs.Truth.{clash}
 use Rattle.format.specs.Bounds.{primeOf}
-use Rattle.answer.specs.Bytes.{overwritten}
+use Rattle.lists.specs.Overwriting.{overwritten}
 use Rattle.poly.specs.Coefficients.{Stored}
 use Rattle.poly.specs.Vectors.{coefficientsAt}
-use Rattle.coefficients.specs.Coefficients.{denominatorOf, numeratorOf}
-use Rattle.coefficients.proofs.Ranges.{denominator-stored, numerator-stored}
+use Rattle.answer.specs.Coefficients.{denominatorOf, numeratorOf}
+use Rattle.answer.proofs.Ranges.{denominator-stored, numerator-stored}
 use Rattle.problem.proofs.Same.{reduced-cong}
 use Rattle.reduced.proofs.CommonDivisors.{stored-full}
-use Rattle.trial.specs.Refusals.{testedBefore}
+use Rattle.trial.specs.Refusals.{outcomeBefore10}
 use Rattle.trial.specs.Trial.{TrialReduced}
 use Rattle.trial.proofs.Facts.{TrialFacts, trial-facts, accepted-or-refused}
 use Rattle.trial.proofs.Settling.{settle-early, settle-not-reduced, settle-short, settle-written, job-of}
 use Rattle.trial.proofs.trial.Statement.{statement}
 use Rattle.trial.proofs.trial.Tie as tie
 
-abbrev start : tie.After-tested → tie.Start
+abbrev start : tie.After-check → tie.Start
 start c = c .before .before .before .before
 
 abbrev header : tie.Start → List ℕ
@@ -39,17 +39,17 @@ abbrev coefficients : tie.Start → List ℕ
 coefficients s = now (s .args .coefficients)
 
 -- where no test before 10 has refused
-passes : (c : tie.At-match-keys2) → testedBefore (header (start (c .before))) (coefficients (start (c .before))) (start (c .before) .args .spoiled) Accepted ≡ Accepted
+passes : (c : tie.At-match-keys2) → outcomeBefore10 (header (start (c .before))) (coefficients (start (c .before))) (start (c .before) .args .spoiled) Accepted ≡ Accepted
 passes c = by (accepted-or-refused _ _ _)
   where
     s : tie.Start
     s = start (c .before)
 
-    by : (testedBefore (header s) (coefficients s) (s .args .spoiled) Accepted ≡ Accepted)
-        ⊎ ((reason : Reason) × (row : ℕ) × (testedBefore (header s) (coefficients s) (s .args .spoiled) Accepted ≡ Refused reason row))
-        → testedBefore (header s) (coefficients s) (s .args .spoiled) Accepted ≡ Accepted
+    by : (outcomeBefore10 (header s) (coefficients s) (s .args .spoiled) Accepted ≡ Accepted)
+        ⊎ ((reason : Reason) × (row : ℕ) × (outcomeBefore10 (header s) (coefficients s) (s .args .spoiled) Accepted ≡ Refused reason row))
+        → outcomeBefore10 (header s) (coefficients s) (s .args .spoiled) Accepted ≡ Accepted
     by (inl e) = e
-    by (inr r) = let e = c .before .tested .ensures ∙ r .2 in ⊎-elim (λ h. absurd (omega arith)) (λ h. absurd (omega arith)) (rw e at (c .match .keys2))
+    by (inr r) = let e = c .before .check .ensures ∙ r .2 in ⊎-elim (λ h. absurd (omega arith)) (λ h. absurd (omega arith)) (rw e at (c .match .keys2))
 
 facts : (c : tie.At-match-keys2) → TrialFacts (header (start (c .before))) (coefficients (start (c .before))) (start (c .before) .args .spoiled)
 facts c = trial-facts _ _ _ (passes c)
@@ -69,12 +69,12 @@ denominator : (c : tie.After-read-vector) → let s = start (c .before .before .
 denominator c = rw (bounds (c .before .before)) at (c .read-vector .ensures .0)
 
 returns : tie.Need-returns
-returns c = settle-early _ _ _ _ _ _ _ (sym (c .before .before .before .tested .ensures) ∙ c .before .verdict .given .1)
+returns c = settle-early _ _ _ _ _ _ _ (sym (c .before .before .before .check .ensures) ∙ c .before .outcome .given .1)
 
 read-vector-requires : tie.Need-read-vector-requires
 read-vector-requires c κs =
     let b = bounds (c .before) in
-    (rw b (storable _), rw b (facts (c .before .before) .coefficient-bytes))
+    (rw b (fits-polynomials _), rw b (facts (c .before .before) .coefficient-bytes))
 
 -- the vector as the callees ask for it
 vector-stored : (c : tie.After-read-vector) → let b = c .before .before .read-header .result .bounds in
@@ -82,14 +82,14 @@ vector-stored : (c : tie.After-read-vector) → let b = c .before .before .read-
 vector-stored c =
     let b = bounds (c .before .before) in
     let F = facts (c .before .before .before) in (
-      rw (b, denominator c) (denominator-stored _ (storable _) _ (F .coefficient-bytes) (F .coefficients-in-range)),
+      rw (b, denominator c) (denominator-stored _ (fits-polynomials _) _ (F .coefficient-bytes) (F .coefficients-in-range)),
       (λ i l.
           let l' = rw b at l in
-          rw (b, numerators c i l') (numerator-stored _ (storable _) _ (F .coefficient-bytes) (F .coefficients-in-range) i l')),
+          rw (b, numerators c i l') (numerator-stored _ (fits-polynomials _) _ (F .coefficient-bytes) (F .coefficients-in-range) i l')),
     )
 
 reduced-requires : tie.Need-reduced-requires
-reduced-requires c κs = (rw (bounds (c .before .before)) (narrow _ .outputs-most), vector-stored c .0, vector-stored c .1)
+reduced-requires c κs = (rw (bounds (c .before .before)) (fits-fields _ .outputs-most), vector-stored c .0, vector-stored c .1)
 
 -- the vector is reduced exactly if the polynomials of the coefficients are
 same-reduced : (c : tie.After-reduced) → let s = start (c .before .before .before .before .before) in (c .reduced .result ≡ true) ↔ TrialReduced (header s) (coefficients s)
@@ -105,7 +105,7 @@ returns-2 c =
     settle-not-reduced _ _ _ _ _ (passes m) (λ R. clash (sym (same-reduced (c .before) .1 R) ∙ not-true _ (c .if1 .taken)))
 
 job-length-requires : tie.Need-job-length-requires
-job-length-requires c κs = rw (c .before .before .before .before .read-header .ensures) (narrow-header _)
+job-length-requires c κs = rw (c .before .before .before .before .read-header .ensures) (fits-header _)
 
 -- the job's length
 total : (c : tie.After-job-length) → let s = start (c .before .before .before .before .before .before .before) in c .job-length .result ≡ jobLengthOf (headerOf (header s))
@@ -128,7 +128,7 @@ put-job-requires c κs =
     let b = bounds (v .before .before) in
     let F = facts (v .before .before .before) in
     let S = vector-stored v in
-    (rw b (narrow _), rw b (omega (arith, F .enough-rows)), rw (b, F .header-bytes) (enough (c .before)), stored-full (S .0), (λ i l. stored-full (S .1 i l)))
+    (rw b (fits-fields _), rw b (omega (arith, F .enough-rows)), rw (b, F .header-bytes) (enough (c .before)), stored-full (S .0), (λ i l. stored-full (S .1 i l)))
 
 -- what was written, and how much of it
 written-length : (c : tie.After-put-job) → let s = start (c .before .before .before .before .before .before .before .before .before .before) in c .put-job .result ≡ jobLengthOf (headerOf (header s))
@@ -139,7 +139,7 @@ written-length c =
 cast-bytes : tie.Need-cast-bytes
 cast-bytes c =
     let s = start (c .before .before .before .before .before .before .before .before .before .before .before .before) in
-    omega (arith, written-length (c .before .before), rows-bytes (boundsOf (header s)) (narrow (header s)), narrow-header (header s) .length-most)
+    omega (arith, written-length (c .before .before), rows-bytes (boundsOf (header s)) (fits-fields (header s)), fits-header (header s) .length-most)
 
 returns-4 : tie.Need-returns-4
 returns-4 c =

@@ -23,15 +23,15 @@ module _ (s : tie.Start) where
 returns : tie.Need-returns
 returns c =
     let s = c .before .before in
-    let examined = c .before .examine .ensures in
-    examined ∙ two-refused (short s) (broken s) _
-    (λ e. ⊎-elim (λ h. omega arith) (λ h. omega arith) (rw (examined ∙ e) at (c .match .keys2)))
+    let checked = c .before .check-rules .ensures in
+    checked ∙ two-refused (short s) (broken s) _
+    (λ e. ⊎-elim (λ h. omega arith) (λ h. omega arith) (rw (checked ∙ e) at (c .match .keys2)))
 
 -- what is left to test where 1 and 11 do not apply
 passed : (c : tie.After-enum-told) (later : Outcome) → later ≡ twoTests (short (c .before .before .before)) (broken (c .before .before .before)) later
 passed c later =
     let s = c .before .before .before in
-    two-passed (short s) (broken s) later (sym (c .before .before .examine .ensures) ∙ c .enum-told .given .1)
+    two-passed (short s) (broken s) later (sym (c .before .before .check-rules .ensures) ∙ c .enum-told .given .1)
 
 returns-2 : tie.Need-returns-2
 returns-2 c =

@@ -3,7 +3,7 @@ use mathlib.Core.Path.{_≡_, refl, ap, _∙_}
 use lib.ListN.{length, length-set}
 use lib.Seq.{paste, paste-zero}
 use Rattle.text.specs.Drafts.{textRoom}
-use Rattle.answer.proofs.Copies.{copy-next, copy-all}
+use Rattle.lists.proofs.Copies.{copy-next, copy-all}
 use borrow.Author.Needs.{needs}
 use native.Mathlib.Omega.{arith}
 use Rattle.text.proofs.draft.copy_out.Statement.{statement}

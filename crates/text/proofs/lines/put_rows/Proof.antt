@@ -3,7 +3,7 @@ use mathlib.Core.Path.{_≡_, refl, sym, ap, _∙_}
 use mathlib.Core.List.{[], _++_}
 use lib.Pow.{pow-pos}
 use lib.ListN.{length}
-use Rattle.word.specs.Word.{marked}
+use Rattle.row_mask.specs.Word.{isSet}
 use Rattle.text.specs.Drafts.{textRoom, held, extended}
 use Rattle.text.specs.Decimal.{itemOf}
 use Rattle.text.specs.Lines.{rowItems}
@@ -16,7 +16,7 @@ use Rattle.text.proofs.lines.put_rows.Tie as tie
 
 abbrev Inv-loop : tie.InvT-loop
 Inv-loop word r₀ rest₀ r rest =
-    (rest < 2 ^ 32) × (held r ≡ extended r []) × (extended r (rowItems 32 0 (marked rest)) ≡ extended r₀ (rowItems 32 0 (marked word)))
+    (rest < 2 ^ 32) × (held r ≡ extended r []) × (extended r (rowItems 32 0 (isSet rest)) ≡ extended r₀ (rowItems 32 0 (isSet word)))
 
 abbrev μ-loop : tie.MeasureT-loop
 μ-loop word r₀ rest₀ r rest = rest
@@ -53,16 +53,16 @@ loop-again c =
     let left = c .without-row .result in
     let now = c .before .put-item .result in
     let put = c .before .put-item .ensures in
-    let rows = next-rows rest row (s .loop .inv .0) (f .before .loop-test .taken) (f .first-wrong .ensures) ∙ ap (λ w. itemOf row ++ rowItems 32 0 (marked w)) (sym (c .without-row .ensures)) in (
+    let rows = next-rows rest row (s .loop .inv .0) (f .before .loop-test .taken) (f .first-wrong .ensures) ∙ ap (λ w. itemOf row ++ rowItems 32 0 (isSet w)) (sym (c .without-row .ensures)) in (
       omega (arith, c .without-row .ensures),
       put-empty (held (s .loop .r) ++ itemOf row) put,
-      put-both (held (s .loop .r)) (itemOf row) (rowItems 32 0 (marked left)) put refl ∙ ap (extended (s .loop .r)) (sym rows) ∙ s .loop .inv .2,
+      put-both (held (s .loop .r)) (itemOf row) (rowItems 32 0 (isSet left)) put refl ∙ ap (extended (s .loop .r)) (sym rows) ∙ s .loop .inv .2,
     )
 
 returns : tie.Need-returns Inv-loop μ-loop
 returns c =
     let s = c .before in
-    let none : rowItems 32 0 (marked (s .loop .rest)) ≡ [] = ap (λ w. rowItems 32 0 (marked w)) (c .loop-test .left) ∙ no-rows in
+    let none : rowItems 32 0 (isSet (s .loop .rest)) ≡ [] = ap (λ w. rowItems 32 0 (isSet w)) (c .loop-test .left) ∙ no-rows in
     s .loop .inv .1 ∙ ap (extended (s .loop .r)) (sym none) ∙ s .loop .inv .2
 
 pub put-rows-spec : {M : Type 1} → statement M

@@ -1,4 +1,0 @@
-pub mod Places
-pub mod Ranges
-pub mod Written
-mod Numerators

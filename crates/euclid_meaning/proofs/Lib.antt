@@ -1,4 +1,0 @@
-mod Monomials
-pub mod Steps
-pub mod Division
-pub mod Euclid

@@ -1,0 +1,4 @@
+pub mod Hand
+pub mod Enlargement
+pub mod Judged
+pub mod Sharp

@@ -1,2 +1,0 @@
-pub mod Fittings
-pub mod ExtensionLaws

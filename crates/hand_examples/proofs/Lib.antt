@@ -1,3 +1,0 @@
-mod Model
-pub mod Examples
-pub mod Enlargement

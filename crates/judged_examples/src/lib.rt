@@ -1,1 +1,0 @@
-// Mathematics only: what is said of answers offered for the jobs checked by hand, from the definitions.

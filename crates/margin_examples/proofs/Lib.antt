@@ -1,2 +1,0 @@
-mod Lists
-pub mod Sharp

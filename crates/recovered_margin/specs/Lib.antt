@@ -1,2 +1,0 @@
-pub mod Others
-pub mod RecoveredMargin

@@ -1,1 +1,0 @@
-// Mathematics only: laws of the answers and of what a call settles. The modules are under proofs/.

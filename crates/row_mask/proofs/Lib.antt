@@ -1,0 +1,3 @@
+pub mod Words
+pub mod SetBits
+mod Examples

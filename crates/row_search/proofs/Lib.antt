@@ -1,2 +1,0 @@
-pub mod FirstBelow
-pub mod Distinct

@@ -1,4 +1,0 @@
-pub mod Words
-pub mod Marks
-mod Examples
-pub mod Counts

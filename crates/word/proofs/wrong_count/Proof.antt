@@ -1,9 +1,0 @@
-use Rattle.word.proofs.Marks.{ones-marked}
-use Rattle.word.proofs.wrong_count.Statement.{statement}
-use Rattle.word.proofs.wrong_count.Tie as tie
-
-returns : tie.Need-returns
-returns c = ones-marked (c .args .word) (c .fits .word .fits)
-
-pub wrong-count-spec : {M : Type 1} → statement M
-wrong-count-spec = tie.close (tie.spec returns)
