@@ -36,6 +36,9 @@ extern "C" {
 #define HANTHUVELO_POLE 65535
 #define HANTHUVELO_SILENT 65534
 
+/* The value of a reciprocal that does not exist, 4294967295: no residue of any of the four primes, so no reciprocal. */
+#define HANTHUVELO_NO_RECIPROCAL UINT32_MAX
+
 /*
  * A job. Its numbers are packed with the most significant bit first. It begins with a header, short or longer:
  *
@@ -209,7 +212,7 @@ struct hanthuvelo_written hanthuvelo_trial(const uint8_t *header, size_t header_
 /* What a call for a reciprocal returns. */
 struct hanthuvelo_reciprocal {
     uint32_t exists; /* 1 if there is a reciprocal, else 0 */
-    uint32_t value;  /* the reciprocal, from 1 to p - 1; 0 where none exists, and then no reciprocal */
+    uint32_t value;  /* the reciprocal, from 1 to p - 1; HANTHUVELO_NO_RECIPROCAL where none exists */
 };
 
 /*
@@ -217,7 +220,8 @@ struct hanthuvelo_reciprocal {
  * r number = 1 modulo p.
  *
  * Zero has no reciprocal: none exists where `number` is 0 modulo p, as 0, p and 2 p are. None exists either where
- * `prime_code` is above 3, as such a code has no prime.
+ * `prime_code` is above 3, as such a code has no prime. In both cases `exists` is 0 and `value` HANTHUVELO_NO_RECIPROCAL,
+ * and in no other.
  *
  * Any two numbers are taken, and nothing is asked of the caller. As a recovery, the call allocates no memory and keeps
  * nothing between calls. The structure has the function's name and stands behind the word `struct`, in C++ too.

@@ -86,7 +86,7 @@ impl Bounds {
     }
 
     /// The same with a bound for each f, as the longer header has it.
-    pub(crate) fn with_longer_header(self) -> Bounds {
+    pub(crate) fn with_bound_for_each(self) -> Bounds {
         let NumeratorBounds::Same(bound) = self.df else {
             return self;
         };

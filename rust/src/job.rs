@@ -71,10 +71,10 @@ impl Job {
     /// pole, and one whose values all are 65534 is silent.
     pub fn allow_marks(&mut self) {
         self.allows_marks = true;
-        self.bounds = self.bounds.with_longer_header();
+        self.bounds = self.bounds.with_bound_for_each();
         for row in &mut self.rows {
             let reading = std::mem::replace(&mut row.reading, Reading::Silent);
-            row.reading = reading.marked();
+            row.reading = reading.under_the_flag();
         }
     }
 

@@ -90,7 +90,7 @@ impl Reading {
     }
 
     /// What it says under a header with the flag for marks: values that are all the number of a mark are that mark.
-    pub(crate) fn marked(self) -> Reading {
+    pub(crate) fn under_the_flag(self) -> Reading {
         let are_all = |mark: u16| match &self {
             Reading::Values(values) => values.iter().all(|&value| value == mark),
             _ => false,

@@ -81,7 +81,7 @@ impl Trial {
     /// has zeros, and is wrong.
     pub fn allow_marks(&mut self) {
         self.allows_marks = true;
-        self.bounds = self.bounds.with_longer_header();
+        self.bounds = self.bounds.with_bound_for_each();
     }
 
     /// Whether the header has the flag by which rows can be marked.

@@ -5,47 +5,59 @@ mod support;
 use support::{assert_bad_use, assert_fails, file, folder, run, run_on};
 
 /// Words behind `hanthuvelo`, the verb first, and what is said of them.
-const BAD_WORDS: [(&str, &str); 17] = [
-    ("recover", "expected a file"),
-    ("recover --jsn x", "unknown option `--jsn`"),
-    (
-        "recover --json --bytes x",
-        "--json and --bytes exclude each other",
-    ),
-    ("recover --hex x", "expected --bytes beside --hex"),
-    (
-        "recover --stream --readable x",
-        "--stream and --readable exclude each other",
-    ),
-    (
-        "recover --readable --binary x",
-        "--readable and --binary exclude each other",
-    ),
-    ("recover --threads", "expected a value behind --threads"),
-    (
-        "recover --threads 0 x",
-        "expected a number from 1 to 1024 behind --threads, found `0`",
-    ),
-    ("recover --refused x", "unknown option `--refused`"),
-    ("recover - -", "expected - once at most"),
-    ("check", "expected a file"),
-    ("pack", "expected a file"),
-    ("pack --json x", "unknown option `--json`"),
-    ("show", "expected a file"),
-    ("unpack", "expected a job and an answer"),
-    ("unpack -", "expected a job and an answer"),
-    ("unpack x y z", "expected a job and an answer"),
-];
+const BAD_WORDS: &str = "\
+recover: expected a file
+recover --jsn x: unknown option `--jsn`
+recover --json --bytes x: --json and --bytes exclude each other
+recover --hex x: expected --bytes beside --hex
+recover --stream --readable x: --stream and --readable exclude each other
+recover --readable --binary x: --readable and --binary exclude each other
+recover --threads: expected a value behind --threads
+recover --threads 0 x: expected a number from 1 to 1024 behind --threads, found `0`
+recover --refused x: unknown option `--refused`
+recover - -: expected - once at most
+check: expected a file
+check --refused: expected a file
+check --bytes x: unknown option `--bytes`
+check --hex x: unknown option `--hex`
+check --stream --readable x: --stream and --readable exclude each other
+check --readable --binary x: --readable and --binary exclude each other
+check --threads: expected a value behind --threads
+check --threads 0 x: expected a number from 1 to 1024 behind --threads, found `0`
+check - -: expected - once at most
+pack: expected a file
+pack --json x: unknown option `--json`
+show: expected a file
+unpack: expected a job and an answer
+unpack -: expected a job and an answer
+unpack x y z: expected a job and an answer
+judge: expected a job and an answer
+judge -: expected a job and an answer
+judge x y z: expected a job and an answer
+judge - -: expected - once at most
+judge --bytes x y: unknown option `--bytes`
+judge --stream x y: unknown option `--stream`
+judge --readable --binary x y: --readable and --binary exclude each other
+trial: expected a file
+trial --binary x: unknown option `--binary`
+trial --hex x: expected --bytes beside --hex
+trial x --start: expected a value behind --start
+trial --start -1 x: expected a number from 0 to 4294967295 behind --start, found `-1`
+trial --spoiled two x: expected a number from 0 to 4294967295 behind --spoiled, found `two`
+trial - -: expected - once at most
+";
 
 #[test]
 fn bad_words_are_named() {
     let verbs = "expected a verb of recover, check, pack, show, unpack, judge, trial, reciprocal";
     let unknown = format!("hanthuvelo: {verbs}, found `recovr`");
     assert_fails(&run(&["recovr", "x"]), &unknown);
-    for (words, message) in BAD_WORDS {
+    for line in BAD_WORDS.lines() {
+        let (words, message) = line.split_once(": ").expect("words and a message");
         let (verb, words) = words.split_once(' ').unwrap_or((words, ""));
         assert_bad_use(verb, words, message);
     }
+    assert_eq!(BAD_WORDS.lines().count(), 39);
     let dashed = run(&["recover", "--", "--json"]);
     assert_fails(&dashed, &format!("--json{MISSING}"));
 }

@@ -1,4 +1,4 @@
-//! `hanthuvelo check`: what it prints where, its exit status, and bad words and inputs.
+//! `hanthuvelo check`: what it prints where, its exit status, and bad inputs.
 
 #[path = "support/made.rs"]
 mod made;
@@ -9,11 +9,11 @@ mod words;
 use hanthuvelo::hex;
 use made::{Made, ACCEPTED};
 use outside_checks::jobs::generate;
-use outside_checks::paper::{EXAMPLES, REFUSALS};
-use support::longer::has_longer_header;
+use outside_checks::paper::{example, refusals};
+use support::own_bounds::has_own_bounds;
 use support::{
-    assert_bad_use, assert_done, assert_fails, assert_prints, example_names, file, folder, run,
-    run_on, stream_jobs, Run,
+    assert_done, assert_fails, assert_prints, example_names, file, folder, run, run_on,
+    stream_jobs, Run,
 };
 use words::REFUSED;
 
@@ -47,8 +47,8 @@ fn object(place: &str, said: &str) -> String {
 #[test]
 fn each_refusal_is_said() {
     let folder = folder("check-paper");
-    assert_eq!(REFUSALS.len(), REFUSED.len());
-    for (example, said) in REFUSALS.iter().zip(REFUSED.map(said_of_form)) {
+    assert_eq!(refusals().len(), REFUSED.len());
+    for (example, said) in refusals().into_iter().zip(REFUSED.map(said_of_form)) {
         let job = bytes(example.job);
         let name = file(&folder, "job", &job);
         let status = i32::from(said != ACCEPTED);
@@ -76,12 +76,13 @@ fn each_refusal_is_said() {
 fn each_form_is_taken() {
     let readable = "prime 7 outputs 1 df 0 dg 0 errors 1\n0: 5\n1: 5\n2: 2\n";
     let accepted = "standard input: accepted\n";
-    for job in [readable.as_bytes(), &bytes(EXAMPLES[0].job)] {
+    let packed = bytes(example("H1").job);
+    for job in [readable.as_bytes(), &packed] {
         assert_done(&run_on(&["check", "-"], job), accepted);
     }
     let forced = run_on(&["check", "--readable", "-"], readable.as_bytes());
     assert_done(&forced, accepted);
-    let binary = run_on(&["check", "--readable", "-"], &bytes(EXAMPLES[0].job));
+    let binary = run_on(&["check", "--readable", "-"], &packed);
     assert_fails(&binary, "standard input, line 1: expected text in UTF-8");
     // The third byte is an `i`, 0x69, which is odd, and ` 7`, 0x20 0x37, ends in the twelve bits behind the bounds.
     let text = run_on(&["check", "--binary", "-"], readable.as_bytes());
@@ -214,7 +215,7 @@ fn refused_jobs_alone_are_printed_where_asked() {
 fn a_broken_stream_names_the_job_that_breaks_off() {
     let jobs = made::stream(6);
     let stream = made::bytes_of(&jobs);
-    let longer = jobs.iter().filter(|job| has_longer_header(&job.bytes));
+    let longer = jobs.iter().filter(|job| has_own_bounds(&job.bytes));
     assert!((2..5).contains(&longer.count()));
     for (index, job) in jobs.iter().enumerate() {
         let (number, start, length) = (job.number, job.byte, job.bytes.len());
@@ -222,7 +223,7 @@ fn a_broken_stream_names_the_job_that_breaks_off() {
         for found in 1..length {
             let needed = match found {
                 1 | 2 => "at least 3".to_string(),
-                3..7 if has_longer_header(&job.bytes) => "at least 7".to_string(),
+                3..7 if has_own_bounds(&job.bytes) => "at least 7".to_string(),
                 _ => length.to_string(),
             };
             let message = format!(
@@ -318,33 +319,4 @@ fn recover_says_the_same() {
     let is_met = |number: usize| met[number] >= 10;
     // 2 has no job any more; the jobs that met it meet 1 or 11.
     assert!([0, 1, 3, 4, 5, 6, 8, 11].into_iter().all(is_met), "{met:?}");
-}
-
-/// Words behind `hanthuvelo check`, and what is said of them.
-const BAD_WORDS: [(&str, &str); 9] = [
-    ("", "expected a file"),
-    ("--refused", "expected a file"),
-    ("--bytes x", "unknown option `--bytes`"),
-    ("--hex x", "unknown option `--hex`"),
-    (
-        "--stream --readable x",
-        "--stream and --readable exclude each other",
-    ),
-    (
-        "--readable --binary x",
-        "--readable and --binary exclude each other",
-    ),
-    ("--threads", "expected a value behind --threads"),
-    (
-        "--threads 0 x",
-        "expected a number from 1 to 1024 behind --threads, found `0`",
-    ),
-    ("- -", "expected - once at most"),
-];
-
-#[test]
-fn bad_words_are_named() {
-    for (words, message) in BAD_WORDS {
-        assert_bad_use("check", words, message);
-    }
 }

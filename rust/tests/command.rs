@@ -5,7 +5,7 @@ mod support;
 use hanthuvelo::hex;
 use outside_checks::jobs::{generate, Random};
 use std::fs;
-use support::longer::{has_longer_header, known_by};
+use support::own_bounds::{has_own_bounds, known_by};
 use support::{
     assert_done, assert_fails, command, example_names, feed, file, folder, run, run_on,
     run_redirected, stream_jobs, Run, ROOT,
@@ -179,7 +179,7 @@ fn shown_jobs_pack_into_their_bytes() {
         let shown = run_on(&["show", "--binary", "-"], job);
         let packed = run_on(&["pack", "--readable", "-"], shown.text.as_bytes());
         assert_eq!(packed.out, *job, "{}", shown.text);
-        tried[usize::from(has_longer_header(job))] += 1;
+        tried[usize::from(has_own_bounds(job))] += 1;
     }
     let [short, longer] = tried;
     assert!(

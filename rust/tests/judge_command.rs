@@ -1,15 +1,14 @@
-//! `hanthuvelo judge`: what it prints where, its exit status, and bad words and inputs.
+//! `hanthuvelo judge`: what it prints where, its exit status, and bad inputs.
 
 mod support;
 
 use hanthuvelo::hex;
 use outside_checks::jobs::generate;
-use outside_checks::paper::{EXAMPLES, REFUSALS};
+use outside_checks::paper::{examples, refusals};
 use outside_checks::second;
 use std::fs;
 use support::{
-    assert_bad_use, assert_done, assert_fails, assert_prints, file, folder, run, run_on,
-    run_redirected, ROOT,
+    assert_done, assert_fails, assert_prints, file, folder, run, run_on, run_redirected, ROOT,
 };
 
 const JOB: &str = "examples/h01.job";
@@ -85,10 +84,8 @@ fn a_form_can_be_forced() {
 fn the_papers_answers_are_right() {
     let folder = folder("judge-paper");
     let mut seen = (0, 0);
-    for example in EXAMPLES
-        .iter()
-        .filter(|example| example.report.refusal != 5)
-    {
+    let all = examples().into_iter();
+    for example in all.filter(|example| example.report.refusal != 5) {
         let job = file(&folder, example.name, &bytes(example.job));
         if example.report.is_recovered() {
             assert_verdict(&job, example.answer, "yes", 0);
@@ -161,10 +158,8 @@ fn a_no_has_its_reason() {
 fn a_job_is_refused_as_elsewhere() {
     let folder = folder("judge-refused");
     let mut numbers = Vec::new();
-    for example in REFUSALS
-        .iter()
-        .filter(|example| !matches!(example.report.refusal, 7 | 8))
-    {
+    let all = refusals().into_iter();
+    for example in all.filter(|example| !matches!(example.report.refusal, 7 | 8)) {
         let job = file(&folder, "job", &bytes(example.job));
         let recovered = run(&["recover", "--binary", &job]);
         let words = recovered.text.strip_prefix(&format!("{job}: "));
@@ -230,27 +225,6 @@ fn a_verdict_is_an_object_where_asked() {
     let object = "{\"file\":\"standard input\",\"status\":\"unreadable\",\"line\":1,\"message\":";
     assert_eq!(unreadable.text, format!("{object}\"{message}\"}}\n"));
     assert_eq!(unreadable.status, 2);
-}
-
-/// Words behind `hanthuvelo judge`, and what is said of them.
-const BAD_WORDS: [(&str, &str); 7] = [
-    ("", "expected a job and an answer"),
-    ("-", "expected a job and an answer"),
-    ("x y z", "expected a job and an answer"),
-    ("- -", "expected - once at most"),
-    ("--bytes x y", "unknown option `--bytes`"),
-    ("--stream x y", "unknown option `--stream`"),
-    (
-        "--readable --binary x y",
-        "--readable and --binary exclude each other",
-    ),
-];
-
-#[test]
-fn bad_words_are_named() {
-    for (words, message) in BAD_WORDS {
-        assert_bad_use("judge", words, message);
-    }
 }
 
 #[test]

@@ -12,7 +12,7 @@ use std::io::{BufRead, BufReader, Read, Write};
 use std::process::Stdio;
 use std::thread;
 use std::time::Duration;
-use support::longer::{has_longer_header, header_length, known_by};
+use support::own_bounds::{has_own_bounds, header_length, known_by};
 use support::{command, file, folder, run, run_on, stream_jobs, Run};
 
 const SEED: u64 = 12;
@@ -116,7 +116,7 @@ fn results_come_in_order_on_any_number_of_threads() {
     assert!(met >= 6 && refusals[0] > 3000, "{refusals:?}");
     assert!(refusals[11] >= 150, "{refusals:?}");
     assert!(refusals[12] >= 50, "{refusals:?}");
-    let longer = jobs.iter().filter(|job| has_longer_header(job)).count();
+    let longer = jobs.iter().filter(|job| has_own_bounds(job)).count();
     assert!((2000..5000).contains(&longer), "{longer}");
     for threads in ["1", "2", "3", "7"] {
         let run = run_on(
@@ -171,7 +171,7 @@ fn small_jobs() -> Vec<Vec<u8>> {
     let jobs = stream_jobs(SEED + 2, 400).into_iter();
     let (longer, short): (Vec<_>, Vec<_>) = jobs
         .filter(|job| job.len() < 60)
-        .partition(|job| has_longer_header(job));
+        .partition(|job| has_own_bounds(job));
     let pairs = longer.into_iter().zip(short).take(2);
     let small: Vec<Vec<u8>> = pairs.flat_map(|(one, other)| [one, other]).collect();
     assert_eq!(small.len(), 4);
@@ -200,7 +200,7 @@ fn a_broken_stream_names_the_job_that_breaks_off() {
                 continue;
             }
             1 | 2 => "at least 3".to_string(),
-            3..7 if has_longer_header(&jobs[whole]) => "at least 7".to_string(),
+            3..7 if has_own_bounds(&jobs[whole]) => "at least 7".to_string(),
             _ => jobs[whole].len().to_string(),
         };
         let message = format!(

@@ -4,7 +4,7 @@ use hanthuvelo::{hex, objection, Fault, Job, Objection};
 use outside_checks::definition;
 use outside_checks::jobs::{generate, Expected, Random};
 use outside_checks::layout::{self, row_bit, value_at, wrong_rows, Answer, Mark};
-use outside_checks::paper::EXAMPLES;
+use outside_checks::paper::examples;
 use outside_checks::second::polynomial::Polynomial;
 use outside_checks::second::{self, Field};
 use std::collections::BTreeMap;
@@ -203,10 +203,8 @@ impl Case {
 fn small_answers_are_all_looked_at() {
     let mut counts = Counts::new();
     let (mut jobs, mut answers) = (0, 0);
-    for example in EXAMPLES
-        .iter()
-        .filter(|example| example.report.refusal != 5)
-    {
+    let all = examples().into_iter();
+    for example in all.filter(|example| example.report.refusal != 5) {
         let bytes = hex::bytes(example.job).expect("the paper's job");
         let mut case = Case::new(&bytes, None);
         let length = (case.outside.answer_length() - 4) / 2;

@@ -1,4 +1,4 @@
-//! `hanthuvelo trial`: what it prints where, its exit status, and bad words and inputs.
+//! `hanthuvelo trial`: what it prints where, its exit status, and bad inputs.
 
 mod support;
 
@@ -6,10 +6,9 @@ use hanthuvelo::{hex, readable, LONGEST_JOB};
 use outside_checks::jobs::trial::generate;
 use outside_checks::second::trial_job;
 use std::fs;
-use support::longer::{df_of, has_longer_header, header_length, outputs_of, Added};
+use support::own_bounds::{df_of, has_own_bounds, header_length, outputs_of, Added};
 use support::{
-    assert_bad_use, assert_done, assert_fails, file, folder, run, run_on, run_redirected,
-    PAGE_RECOVERED, ROOT,
+    assert_done, assert_fails, file, folder, run, run_on, run_redirected, PAGE_RECOVERED, ROOT,
 };
 
 const EXAMPLE: &str = "examples/pole.trial";
@@ -87,30 +86,6 @@ fn a_refusal_goes_to_standard_error() {
     let words = "refused 10: the leading coefficient of g is 3, not 1\n";
     assert_eq!(both.said, format!("{bad}: {words}"));
     assert_eq!((both.text, both.status), (format!("# {EXAMPLE}\n{JOB}"), 1));
-}
-
-/// Words behind `hanthuvelo trial`, and what is said of them.
-const BAD_WORDS: [(&str, &str); 7] = [
-    ("", "expected a file"),
-    ("--binary x", "unknown option `--binary`"),
-    ("--hex x", "expected --bytes beside --hex"),
-    ("x --start", "expected a value behind --start"),
-    (
-        "--start -1 x",
-        "expected a number from 0 to 4294967295 behind --start, found `-1`",
-    ),
-    (
-        "--spoiled two x",
-        "expected a number from 0 to 4294967295 behind --spoiled, found `two`",
-    ),
-    ("- -", "expected - once at most"),
-];
-
-#[test]
-fn bad_words_are_named() {
-    for (words, message) in BAD_WORDS {
-        assert_bad_use("trial", words, message);
-    }
 }
 
 #[test]
@@ -200,7 +175,7 @@ fn bounds_and_words(header: &[u8]) -> Option<(Vec<usize>, String)> {
         return None;
     }
     let (outputs, df) = (outputs_of(header), df_of(header));
-    if !has_longer_header(header) {
+    if !has_own_bounds(header) {
         return Some((vec![df; outputs], df.to_string()));
     }
     let added = Some(Added::of(header)).filter(|added| !added.breaks_a_rule(header))?;

@@ -1,14 +1,17 @@
 //! The formats of trials against those of the outside checks, and what is said of bad ones.
 
-#[path = "support/longer.rs"]
-mod longer;
+#[path = "support/exchanged.rs"]
+mod exchanged;
+#[path = "support/own_bounds.rs"]
+mod own_bounds;
 #[path = "support/trials.rs"]
 mod trials;
 
+use exchanged::read_and_named;
 use hanthuvelo::{hex, readable, Bounds, NumeratorBounds, Prime, Trial};
-use longer::{has_longer_header, lengthened};
 use outside_checks::jobs::trial::generate;
 use outside_checks::jobs::Random;
+use own_bounds::{has_own_bounds, with_own_bounds};
 use trials::{trial_of, within_own_bounds};
 
 const SEED: u64 = 32;
@@ -54,12 +57,12 @@ fn trials_have_a_bound_for_each_output() {
     let (mut tried, mut shorter) = (0, 0);
     for index in 0..8000 {
         let call = generate(SEED + 1, index);
-        let known = trial_of(&call).filter(|_| !has_longer_header(&call.header));
+        let known = trial_of(&call).filter(|_| !has_own_bounds(&call.header));
         let Some(short) = known else {
             continue;
         };
         let (longer, added) = within_own_bounds(&short, &mut Random::new(SEED, index));
-        assert_eq!(longer.header(), lengthened(&call.header, &added));
+        assert_eq!(longer.header(), with_own_bounds(&call.header, &added));
         let cut = short.numerators().iter().zip(added.bounds);
         let cut: Vec<u16> = cut.flat_map(|(f, bound)| f[..=bound].to_vec()).collect();
         let listed = [short.denominator(), &cut].concat();
@@ -217,28 +220,10 @@ fn what_fits_no_bytes_is_named() {
     );
 }
 
-/// Readable trials with some characters exchanged: read or named, never a panic.
 #[test]
 fn any_text_is_read_or_named() {
-    let (mut read, mut named) = (0, 0);
-    for index in 0..20_000 {
-        let mut random = Random::new(SEED, index);
-        let mut text = TEXT.as_bytes().to_vec();
-        for _ in 0..random.between(1, 3) {
-            let place = random.below(text.len());
-            text[place] = b"0123456789 =+^u#\nfg\xC3\xFF\x00"[random.below(22)];
-        }
-        match readable::parse_trial(&text) {
-            Ok(trial) => {
-                assert_eq!(trial.to_string().parse(), Ok(trial));
-                read += 1;
-            }
-            Err(error) => {
-                assert!(error.line >= 1 && error.line <= 1 + text.len());
-                named += 1;
-            }
-        }
-    }
+    let characters = b"0123456789 =+^u#\nfg\xC3\xFF\x00";
+    let (read, named) = read_and_named(SEED, TEXT, characters, readable::parse_trial);
     assert!(read > 1500 && named > 10_000, "{read} read, {named} named");
 }
 

@@ -56,7 +56,7 @@ static const uint32_t PRIMES[] = {7, 97, 257, 65521};
 
 static int none(struct hanthuvelo_reciprocal r)
 {
-    return r.exists == 0 && r.value == 0;
+    return r.exists == 0 && r.value == HANTHUVELO_NO_RECIPROCAL;
 }
 
 /* Whether a call returns the reciprocal of this number, or none where it is 0 modulo the prime. */
@@ -75,6 +75,7 @@ int check_reciprocal(void)
     EXPECT(sizeof(struct hanthuvelo_reciprocal) == 8);
     EXPECT(offsetof(struct hanthuvelo_reciprocal, exists) == 0);
     EXPECT(offsetof(struct hanthuvelo_reciprocal, value) == 4);
+    EXPECT(HANTHUVELO_NO_RECIPROCAL == 4294967295);
 
     static const uint32_t HALVES[] = {4, 49, 129, 32761};
     for (uint32_t code = 0; code < 4; code++) {

@@ -1,6 +1,6 @@
 //! Every check of a job's form beside a recovery, on the same bytes.
 
-use crate::jobs::form::{unmarked_job, Order};
+use crate::jobs::form::{job_without_marks, Order};
 use crate::jobs::Random;
 use crate::layout::Job;
 use crate::{checkers, implementations, Checker, Implementation};
@@ -44,7 +44,7 @@ impl Compared {
 
     /// A job of this size that no check refuses, without marked rows: of the prime's code, the outputs and the rows.
     pub fn sound(&self, random: &mut Random, size: (usize, usize, usize), order: Order) -> Job {
-        let job = unmarked_job(random, size, order);
+        let job = job_without_marks(random, size, order);
         self.expect(&job.pack(), Form::ACCEPTED);
         job
     }

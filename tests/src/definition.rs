@@ -215,8 +215,8 @@ pub const SMALLEST: [(&[usize], usize, usize); 21] = [
     (&[0, 0, 0, 0], 0, 0),
 ];
 
-/// The same for jobs with marked rows, and how many rows more than needed.
-pub const SMALLEST_MARKED: [(&[usize], usize, usize, usize); 11] = [
+/// The same for jobs with rows that report a pole or are silent, and how many rows more than needed.
+pub const SMALLEST_WITH_MARKS: [(&[usize], usize, usize, usize); 11] = [
     (&[0], 0, 0, 1),
     (&[0], 1, 0, 1),
     (&[1], 0, 0, 1),
@@ -231,9 +231,9 @@ pub const SMALLEST_MARKED: [(&[usize], usize, usize, usize); 11] = [
 ];
 
 /// Calls `visit` with every job modulo 7 that has these bounds of each f, of g and of the wrong rows, no row more than they
-/// need, and its rows at the points 0 to L − 1. Its header is the longer one.
+/// need, and its rows at the points 0 to L − 1. Its header has a bound for each output.
 pub fn for_each_smallest_job(bounds: (&[usize], usize, usize), visit: &mut dyn FnMut(&Job)) {
-    let mut job = job_without_rows(HeaderForm::Longer, bounds);
+    let mut job = job_without_rows(HeaderForm::OwnBounds, bounds);
     let outputs = job.outputs();
     for_each_list(job.needed_rows() * outputs, 7, &mut |values| {
         let row = |(point, values): (u32, &[u32])| Row {
@@ -261,7 +261,7 @@ fn job_without_rows(
 
 /// The same under the flag, with so many rows more, each of values, with a pole or silent in every way, but for the jobs of
 /// which too few rows speak or none is marked.
-pub fn for_each_marked_job(
+pub fn for_each_smallest_job_with_marks(
     bounds: (&[usize], usize, usize),
     surplus: usize,
     visit: &mut dyn FnMut(&Job),

@@ -1,6 +1,6 @@
 //! Generated jobs: seeded and repeatable, each labelled with what it was made to be.
 
-mod added;
+mod broken_header;
 pub mod enlargement;
 mod false_marks;
 mod faults;
@@ -11,10 +11,10 @@ mod header_tally;
 pub mod judged;
 pub mod margin;
 mod mark_tally;
-mod marked;
 pub mod measured;
 mod own_bound;
 mod planted;
+mod planted_marks;
 mod random;
 pub mod reciprocal;
 pub mod small;
@@ -22,14 +22,14 @@ mod tally;
 pub mod trial;
 
 use crate::layout::Answer;
-use added::Broken;
+use broken_header::Broken;
 use false_marks::FalseMark;
 use hanthuvelo::{hex, Form, Report};
-use marked::Marks;
 use own_bound::beyond_own_bound;
 use planted::{planted, Planted, Shape, WrongRows};
+use planted_marks::Marks;
 pub use random::Random;
-pub use tally::{with_floors, Counts, Kind, Tally};
+pub use tally::{outcome, with_floors, Counts, Kind, Tally};
 
 /// What the generator knows of a job's outcome.
 pub enum Expected {
@@ -97,22 +97,22 @@ const PLAN: [(Source, usize); 42] = [
     (Source::Planted(Shape::Any, WrongRows::OneTooMany), 4),
     (Source::Planted(Shape::Poles, WrongRows::OneTooMany), 1),
     (Source::Planted(Shape::WholeField, WrongRows::OneTooMany), 1),
-    (Source::marked(Marks::Poles, WrongRows::None), 1),
-    (Source::marked(Marks::Poles, WrongRows::Fewer), 1),
-    (Source::marked(Marks::Poles, WrongRows::Exact), 2),
-    (Source::marked(Marks::OwnPoles, WrongRows::None), 2),
-    (Source::marked(Marks::OwnPoles, WrongRows::Exact), 2),
-    (Source::marked(Marks::PolesAboveErrors, WrongRows::None), 1),
-    (Source::marked(Marks::PolesAboveErrors, WrongRows::Exact), 2),
-    (Source::marked(Marks::Silent, WrongRows::Fewer), 1),
-    (Source::marked(Marks::Silent, WrongRows::Exact), 2),
-    (Source::marked(Marks::PolesAndSilent, WrongRows::Exact), 3),
-    (Source::marked(Marks::PolesAndSilent, WrongRows::Fewer), 1),
+    (Source::marks(Marks::Poles, WrongRows::None), 1),
+    (Source::marks(Marks::Poles, WrongRows::Fewer), 1),
+    (Source::marks(Marks::Poles, WrongRows::Exact), 2),
+    (Source::marks(Marks::OwnPoles, WrongRows::None), 2),
+    (Source::marks(Marks::OwnPoles, WrongRows::Exact), 2),
+    (Source::marks(Marks::PolesAboveErrors, WrongRows::None), 1),
+    (Source::marks(Marks::PolesAboveErrors, WrongRows::Exact), 2),
+    (Source::marks(Marks::Silent, WrongRows::Fewer), 1),
+    (Source::marks(Marks::Silent, WrongRows::Exact), 2),
+    (Source::marks(Marks::PolesAndSilent, WrongRows::Exact), 3),
+    (Source::marks(Marks::PolesAndSilent, WrongRows::Fewer), 1),
     (
-        Source::marked(Marks::PolesAndSilent, WrongRows::OneTooMany),
+        Source::marks(Marks::PolesAndSilent, WrongRows::OneTooMany),
         1,
     ),
-    (Source::marked(Marks::OwnPoles, WrongRows::OneTooMany), 1),
+    (Source::marks(Marks::OwnPoles, WrongRows::OneTooMany), 1),
     (Source::BeyondOwnBound, 2),
     (Source::Faulty(1), 1),
     (Source::SpareBit, 1),
@@ -144,7 +144,7 @@ enum Source {
 }
 
 impl Source {
-    const fn marked(marks: Marks, wrong: WrongRows) -> Source {
+    const fn marks(marks: Marks, wrong: WrongRows) -> Source {
         Source::Planted(Shape::Marked(marks), wrong)
     }
 }

@@ -1,5 +1,6 @@
-//! The formats of paper 01, with the longer header and the marked rows of paper 02, as the generator and the tests use
-//! them: job and answer bytes written and read back. The solvers have readers and writers of their own.
+//! The formats of paper 01, with the bounds for each output and the rows that report a pole or are silent of paper 02, as the
+//! generator and the tests use them: job and answer bytes written and read back. The solvers have readers and writers of
+//! their own.
 
 mod marks;
 
@@ -24,25 +25,29 @@ pub enum HeaderForm {
     /// Three bytes with the spare bit 0; df bounds every f.
     Short,
     /// Four more bytes behind the spare bit 1: a bound for each f, and flags, which are all 0.
-    Longer,
+    OwnBounds,
     /// The same with the first flag 1, by which rows can be marked.
     Flagged,
 }
 
 impl HeaderForm {
-    pub const ALL: [HeaderForm; 3] = [HeaderForm::Short, HeaderForm::Longer, HeaderForm::Flagged];
+    pub const ALL: [HeaderForm; 3] = [
+        HeaderForm::Short,
+        HeaderForm::OwnBounds,
+        HeaderForm::Flagged,
+    ];
 
     /// The form of the header that three bytes or more begin with; flags that are not there count as 0.
     pub fn of(bytes: &[u8]) -> HeaderForm {
         match (bytes[2] % 2, bytes.get(5)) {
             (0, _) => HeaderForm::Short,
             (_, Some(byte)) if byte / 8 % 2 == 1 => HeaderForm::Flagged,
-            _ => HeaderForm::Longer,
+            _ => HeaderForm::OwnBounds,
         }
     }
 
-    /// Whether the spare bit is 1.
-    pub fn is_longer(self) -> bool {
+    /// Whether the spare bit is 1, so that there is a bound for each f.
+    pub fn has_own_bounds(self) -> bool {
         self != HeaderForm::Short
     }
 
@@ -50,7 +55,7 @@ impl HeaderForm {
     pub fn length(self) -> usize {
         match self {
             HeaderForm::Short => 3,
-            HeaderForm::Longer | HeaderForm::Flagged => 7,
+            HeaderForm::OwnBounds | HeaderForm::Flagged => 7,
         }
     }
 }
@@ -205,7 +210,7 @@ pub fn has_sound_added_header(bytes: &[u8]) -> bool {
     let bounds = added_bounds(&bytes[3..7]);
     let flags = number(&bytes[5..7]) % 4096;
     let has_absent = bounds[outputs..].iter().any(|&bound| bound > 0);
-    bounds[..outputs].iter().max() == Some(&df) && !has_absent && flags % 0x800 == 0
+    bounds[..outputs].iter().max() == Some(&df) && !has_absent && flags & 0x7FF == 0
 }
 
 /// The four bounds in the four bytes of an added header.

@@ -4,6 +4,7 @@
 #![forbid(unsafe_code)]
 
 pub mod compared;
+pub mod crates;
 pub mod definition;
 pub mod jobs;
 pub mod ladder;
@@ -14,8 +15,12 @@ pub mod program;
 pub mod second;
 pub mod statements;
 
-use hanthuvelo::{Form, Judgement, Report, Written};
+use hanthuvelo::{hex, Form, Judgement, Report, Written};
+use layout::Job;
+use std::fmt::{Debug, Formatter};
+use std::fs;
 use std::io::Write;
+use std::path::{Path, PathBuf};
 use std::str::FromStr;
 
 /// One way to recover a job into an area.
@@ -23,6 +28,16 @@ use std::str::FromStr;
 pub struct Implementation {
     pub name: &'static str,
     pub recover: fn(&[u8], &mut [u8]) -> Report,
+}
+
+impl Implementation {
+    /// The answer of a well formed job in an area of its length; none where the job is refused with 8.
+    pub fn answer(&self, job: &Job) -> Option<Vec<u8>> {
+        let mut area = vec![0; job.answer_length()];
+        let report = (self.recover)(&job.pack(), &mut area);
+        assert!(matches!(report.refusal, 0 | 8), "{report:?} {job:?}");
+        report.is_recovered().then_some(area)
+    }
 }
 
 /// Every implementation to be compared; the library only where its feature is on.
@@ -175,6 +190,20 @@ pub fn setting<T: FromStr>(name: &str, usual: T) -> T {
     }
 }
 
+/// The title of a run: its seed, and what is compared in it by which names.
+pub fn run_title<'a>(seed: u64, what: &str, names: impl Iterator<Item = &'a str>) -> String {
+    let names: Vec<&str> = names.collect();
+    format!("seed {seed}, {what}: {}", names.join(", "))
+}
+
+/// An empty folder of a test's own, by this name within another one.
+pub fn empty_folder(within: &str, name: &str) -> PathBuf {
+    let folder = Path::new(within).join(name);
+    let _ = fs::remove_dir_all(&folder);
+    fs::create_dir_all(&folder).expect("a folder");
+    folder
+}
+
 /// Writes past a test's capture, so that every run shows its counts.
 pub fn show(text: &str) {
     std::io::stderr()
@@ -186,6 +215,29 @@ pub fn show(text: &str) {
 pub fn conclude(title: &str, (summary, enough): (String, bool)) {
     show(&format!("\n{title}\n{summary}"));
     assert!(enough, "too few of a kind");
+}
+
+/// An area after a call, shown in hexadecimal.
+#[derive(PartialEq, Eq)]
+pub struct Area(pub Vec<u8>);
+
+impl Debug for Area {
+    fn fmt(&self, formatter: &mut Formatter<'_>) -> std::fmt::Result {
+        formatter.write_str(&hex::text(&self.0))
+    }
+}
+
+/// What all come to, each after its name, which must be the same.
+pub fn agreed<T: PartialEq + Debug>(
+    outcomes: impl Iterator<Item = (&'static str, T)>,
+    describe: &dyn Fn() -> String,
+) -> T {
+    let mut outcomes = outcomes;
+    let (first, agreed) = outcomes.next().expect("one at least");
+    for (name, outcome) in outcomes {
+        assert_eq!(outcome, agreed, "{name} and {first}\n{}", describe());
+    }
+    agreed
 }
 
 /// Fails where what is generated does not follow from seed and number, or not from the seed.

@@ -10,10 +10,7 @@ const PATIENCE: Duration = Duration::from_secs(10);
 
 /// Where the program stands once it is built.
 pub fn path() -> PathBuf {
-    PathBuf::from(concat!(
-        env!("CARGO_MANIFEST_DIR"),
-        "/../target/bin/recover"
-    ))
+    PathBuf::from(concat!(env!("CARGO_MANIFEST_DIR"), "/../target/bin/print"))
 }
 
 /// The program's output for an input that comes in pieces, with a pause between them.
@@ -41,9 +38,9 @@ pub fn run_redirected(redirection: &str, input: &[u8]) -> Result<Output, String>
 
 fn start(command: &mut Command) -> Result<Child, String> {
     if !path().is_file() {
-        let command = "build it in the repository's root with `rt check recover`";
+        let command = "build it in the repository's root with `rt check print`";
         return Err(format!(
-            "target/bin/recover is missing: {command}, or leave it out by `--no-default-features`"
+            "target/bin/print is missing: {command}, or leave it out by `--no-default-features`"
         ));
     }
     command

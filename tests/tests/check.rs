@@ -8,7 +8,7 @@ use outside_checks::compared::Compared;
 use outside_checks::jobs::form::{generate, FormJob, Order, Tally};
 use outside_checks::jobs::Random;
 use outside_checks::layout::{has_sound_added_header, HeaderForm, Job, MOST_ROWS, PRIMES};
-use outside_checks::{conclude, expect_repeatable, setting, show};
+use outside_checks::{conclude, expect_repeatable, run_title, setting, show};
 
 const SEED: u64 = 18_446_744;
 const JOBS: u64 = 65_000;
@@ -36,9 +36,8 @@ fn all_checks_agree_on_generated_jobs() {
         let is_answered = is_answered(&compared, &job, form);
         tally.count(&job, form, is_answered);
     }
-    let names: Vec<&str> = compared.checkers.iter().map(|each| each.name).collect();
-    let title = format!("seed {seed}, forms checked by: {}", names.join(", "));
-    conclude(&title, tally.summary());
+    let names = compared.checkers.iter().map(|each| each.name);
+    conclude(&run_title(seed, "forms checked by", names), tally.summary());
 }
 
 #[test]
@@ -198,7 +197,7 @@ fn with_flipped_bit(job: &Job, bytes: &[u8], bit: usize) -> Form {
         return with_number(job, row, column, u32::from(number));
     }
     let flipped = Job::unpack(bytes);
-    if flipped.header.is_longer() && !has_sound_added_header(bytes) {
+    if flipped.header.has_own_bounds() && !has_sound_added_header(bytes) {
         return Form::refused(11, 0);
     }
     match bit {

@@ -3,22 +3,16 @@
 use hanthuvelo::hex;
 use hanthuvelo::Report;
 use outside_checks::definition::{
-    answers, candidates, for_each_marked_job, for_each_smallest_job, SMALLEST, SMALLEST_MARKED,
+    answers, candidates, for_each_smallest_job, for_each_smallest_job_with_marks, SMALLEST,
+    SMALLEST_WITH_MARKS,
 };
-use outside_checks::jobs::small::{small_job, small_jobs, small_marked_job};
-use outside_checks::jobs::Random;
+use outside_checks::jobs::small::{small_job, small_job_with_marks, small_jobs};
+use outside_checks::jobs::{Counts, Random};
 use outside_checks::layout::{HeaderForm, Job, Mark};
-use outside_checks::{implementations, Implementation};
+use outside_checks::{conclude, implementations, Implementation};
 
 const SEED: u64 = 31;
 const SURPLUS: usize = 3;
-
-#[derive(Default)]
-struct Counts {
-    jobs: usize,
-    answered: usize,
-    candidates: u64,
-}
 
 /// Every implementation with the job's bytes under each header.
 fn calls(job: &Job) -> Vec<(Implementation, Vec<u8>)> {
@@ -59,21 +53,20 @@ fn compare(job: &Job, counts: &mut Counts) {
             hex::text(&bytes)
         );
     }
-    counts.jobs += 1;
-    counts.answered += usize::from(expected_report.is_recovered());
-    counts.candidates += candidates(job);
+    let is_answered = expected_report.is_recovered();
+    counts.add("answered", is_answered);
+    counts.add("refused", !is_answered);
+    counts.add_number("pairs tried", candidates(job) as usize);
 }
 
-fn show(name: &str, counts: &Counts) {
-    let Counts {
-        jobs,
-        answered,
-        candidates,
-    } = counts;
-    let refused = jobs - answered;
-    outside_checks::show(&format!(
-        "{name}: {jobs} jobs, {answered} answered, {refused} refused, {candidates} pairs tried\n"
-    ));
+/// Shows the counts, and fails where too few jobs are answered, too few are refused, or too few pairs were tried for them.
+fn expect_enough(name: &str, counts: &Counts, [answered, refused, pairs]: [usize; 3]) {
+    let floors = [
+        ("answered", answered),
+        ("refused", refused),
+        ("pairs tried", pairs),
+    ];
+    conclude(name, counts.against(&floors));
 }
 
 #[test]
@@ -82,69 +75,72 @@ fn all_values_of_the_smallest_jobs() {
     for bounds in SMALLEST {
         for_each_smallest_job(bounds, &mut |job| compare(job, &mut counts));
     }
-    show("all values of the smallest jobs", &counts);
+    let name = "all values of the smallest jobs";
+    expect_enough(name, &counts, [27_000, 147_000, 40_000_000]);
 }
 
-/// Compares so many random jobs that are wanted and not too large.
+/// Compares so many random jobs that are wanted and not too large; at least so many are answered, and refused.
 fn compare_random(
     name: &str,
     count: usize,
     draw: fn(&mut Random) -> Job,
     is_wanted: fn(&Job) -> bool,
-) -> Counts {
+    floors: [usize; 3],
+) {
     let mut counts = Counts::default();
     let random = Random::new(SEED, count as u64);
     for job in small_jobs(random, (count, 20_000), draw, is_wanted) {
         compare(&job, &mut counts);
     }
-    show(name, &counts);
-    counts
+    assert_eq!(counts.of("answered") + counts.of("refused"), count);
+    expect_enough(name, &counts, floors);
 }
 
 #[test]
 fn random_small_jobs() {
-    let counts = compare_random("random small jobs", 6000, small_job, |_| true);
-    assert!(counts.answered >= 2000 && counts.jobs - counts.answered >= 1000);
+    let name = "random small jobs";
+    compare_random(name, 6000, small_job, |_| true, [2000, 1000, 10_000_000]);
 }
 
 #[test]
 fn random_small_jobs_with_bounds_that_differ() {
     let name = "random small jobs with bounds that differ";
-    let counts = compare_random(name, 3000, small_job, |job| !job.has_equal_bounds());
-    assert!(counts.answered >= 600 && counts.jobs - counts.answered >= 1000);
+    let is_wanted = |job: &Job| !job.has_equal_bounds();
+    compare_random(name, 3000, small_job, is_wanted, [600, 1000, 20_000_000]);
 }
 
 #[test]
 fn random_small_jobs_with_poles() {
-    let has_pole = |job: &Job| !job.marked(Mark::Pole).is_empty();
     let name = "random small jobs with rows that report a pole";
-    let counts = compare_random(name, 6000, small_marked_job, has_pole);
-    assert!(counts.answered >= 1500 && counts.jobs - counts.answered >= 1500);
+    let has_pole = |job: &Job| !job.marked(Mark::Pole).is_empty();
+    let draw = small_job_with_marks;
+    compare_random(name, 6000, draw, has_pole, [1500, 1500, 15_000_000]);
     let name = "the same with several outputs";
-    let counts = compare_random(name, 3001, small_marked_job, |job| {
-        job.outputs() > 1 && job.marked(Mark::Pole).len() > 1
-    });
-    assert!(counts.answered >= 300 && counts.jobs - counts.answered >= 1000);
+    let has_poles = |job: &Job| job.outputs() > 1 && job.marked(Mark::Pole).len() > 1;
+    compare_random(name, 3001, draw, has_poles, [300, 1000, 10_000_000]);
 }
 
 #[test]
 fn random_small_jobs_with_silent_rows() {
     let name = "random small jobs with silent rows";
-    let counts = compare_random(name, 3002, small_marked_job, |job| {
-        !job.marked(Mark::Silent).is_empty()
-    });
-    assert!(counts.answered >= 600 && counts.jobs - counts.answered >= 600);
+    let is_silent = |job: &Job| !job.marked(Mark::Silent).is_empty();
+    compare_random(
+        name,
+        3002,
+        small_job_with_marks,
+        is_silent,
+        [600, 600, 7_000_000],
+    );
 }
 
 /// Every way to mark the rows of the smallest jobs, and of those with a row more, with every value of the others.
 #[test]
-fn all_marks_of_the_smallest_jobs() {
+fn all_poles_and_silent_rows_of_the_smallest_jobs() {
     let mut counts = Counts::default();
-    for (numerator_bounds, dg, errors, surplus) in SMALLEST_MARKED {
-        for_each_marked_job((numerator_bounds, dg, errors), surplus, &mut |job| {
-            compare(job, &mut counts);
-        });
+    for (numerator_bounds, dg, errors, surplus) in SMALLEST_WITH_MARKS {
+        let bounds = (numerator_bounds, dg, errors);
+        for_each_smallest_job_with_marks(bounds, surplus, &mut |job| compare(job, &mut counts));
     }
-    show("all marks and values of the smallest jobs", &counts);
-    assert!(counts.answered >= 5000 && counts.jobs - counts.answered >= 5000);
+    let name = "all poles, silent rows and values of the smallest jobs";
+    expect_enough(name, &counts, [15_000, 56_000, 30_000_000]);
 }

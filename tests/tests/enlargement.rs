@@ -3,117 +3,51 @@
 use hanthuvelo::hex;
 use hanthuvelo::Report;
 use outside_checks::jobs::enlargement::{generate, Pair};
-use outside_checks::jobs::Random;
+use outside_checks::jobs::{Counts, Random};
 use outside_checks::layout::{packed_row, row_bit, value_at, Answer, HeaderForm, Job, Mark, Row};
-use outside_checks::{implementations, show, Implementation};
+use outside_checks::{conclude, implementations, Implementation};
 
 const SEED: u64 = 5;
 const PAIRS: u64 = 16_000;
 
-/// How often each side of the rule was met.
-#[derive(Default)]
-struct Counts {
-    pairs: usize,
-    same: usize,
-    same_with_all_errors: usize,
-    refused: usize,
-    other_answer: usize,
-    one_too_many: usize,
-    no_further_rows: usize,
-    fewer_errors_allowed: usize,
-    smaller_bound: usize,
-    further_wrong: usize,
-    /// By whether the smaller and the larger job have the longer header.
-    headers: [[usize; 2]; 2],
-    own_bound_below: usize,
-    own_bound_above: usize,
-    differing: usize,
-    marks: MarkCounts,
-}
+/// How often each side of the rule is met, at least. T is the smaller job and T' the larger one.
+const FLOORS: [(&str, usize); 29] = [
+    ("neither has a bound for each output", 500),
+    ("T' alone has a bound for each output", 1000),
+    ("T alone has a bound for each output", 1000),
+    ("both have a bound for each output", 2000),
+    ("same fraction, a bound of f below T's", 1000),
+    ("same fraction, a bound of f above T's", 500),
+    ("same fraction, bounds of T' differ", 1000),
+    ("pairs", 10_000),
+    ("k + w within E', same fraction", 4000),
+    ("k + w equal to E'", 1000),
+    ("k + w equal to E' + 1", 500),
+    ("larger job refused", 1500),
+    ("larger job answered otherwise", 20),
+    ("no further rows", 500),
+    ("E' below E", 500),
+    ("df' below df or dg' below dg", 500),
+    ("same fraction, wrong further rows", 500),
+    ("the flag of T alone", 300),
+    ("the flag of T' alone", 300),
+    ("both flags, same fraction", 1000),
+    ("same, T has reported poles", 500),
+    ("same, T' holds silent rows of T", 300),
+    ("same, T' lacks silent rows of T", 200),
+    ("same, silent rows of T speak in T'", 200),
+    ("same, silent further rows", 500),
+    ("same, one of them at a root", 50),
+    ("same, further poles told rightly", 100),
+    ("same, further poles told wrongly", 100),
+    ("same, T' has fewer rows than T", 50),
+];
 
-/// The same of marked rows; but for the first two, where the fraction is the same.
-#[derive(Default)]
-struct MarkCounts {
-    flag_of_smaller: usize,
-    flag_of_larger: usize,
-    both_flags: usize,
-    poles_held: usize,
-    silent_held: usize,
-    silent_lacking: usize,
-    silent_replaced: usize,
-    further_silent: usize,
-    further_silent_at_root: usize,
-    further_poles: usize,
-    further_false_poles: usize,
-    smaller_by_rows: usize,
-}
-
-impl MarkCounts {
-    fn take(&mut self, pair: &Pair, same: bool, denominator: &[u32]) {
-        let (smaller, larger) = (&pair.smaller, &pair.larger);
-        let flags = [smaller, larger].map(|job| job.header == HeaderForm::Flagged);
-        self.flag_of_smaller += usize::from(flags == [true, false]);
-        self.flag_of_larger += usize::from(flags == [false, true]);
-        if !same {
-            return;
-        }
-        self.both_flags += usize::from(flags == [true, true]);
-        self.smaller_by_rows += usize::from(larger.rows.len() < smaller.rows.len());
-        self.poles_held += usize::from(!smaller.marked(Mark::Pole).is_empty());
-        let silent = smaller.marked(Mark::Silent);
-        let (held, gone): (Vec<usize>, Vec<usize>) = silent
-            .into_iter()
-            .partition(|&row| place_in(larger, &smaller.rows[row]).is_some());
-        let has_point = |&row: &usize| {
-            let point = smaller.rows[row].point;
-            larger.rows.iter().any(|other| other.point == point)
-        };
-        self.silent_held += usize::from(!held.is_empty());
-        self.silent_replaced += usize::from(gone.iter().any(has_point));
-        self.silent_lacking += usize::from(!gone.iter().all(has_point));
-        let further = |mark: Mark, is_root: bool| {
-            let mut rows = larger.marked(mark).into_iter();
-            rows.any(|row| {
-                let row = &larger.rows[row];
-                let value = value_at(denominator, row.point, larger.prime());
-                place_in(smaller, row).is_none() && (value == 0) == is_root
-            })
-        };
-        self.further_silent += usize::from(further(Mark::Silent, false));
-        self.further_silent_at_root += usize::from(further(Mark::Silent, true));
-        self.further_poles += usize::from(further(Mark::Pole, true));
-        self.further_false_poles += usize::from(further(Mark::Pole, false));
-    }
-
-    fn lines(&self) -> [(&'static str, usize, usize); 12] {
-        [
-            ("the flag of T alone", self.flag_of_smaller, 300),
-            ("the flag of T' alone", self.flag_of_larger, 300),
-            ("both flags, same fraction", self.both_flags, 1000),
-            ("same, T has reported poles", self.poles_held, 500),
-            ("same, T' holds silent rows of T", self.silent_held, 300),
-            ("same, T' lacks silent rows of T", self.silent_lacking, 200),
-            (
-                "same, silent rows of T speak in T'",
-                self.silent_replaced,
-                200,
-            ),
-            ("same, silent further rows", self.further_silent, 500),
-            (
-                "same, one of them at a root",
-                self.further_silent_at_root,
-                50,
-            ),
-            ("same, further poles told rightly", self.further_poles, 100),
-            (
-                "same, further poles told wrongly",
-                self.further_false_poles,
-                100,
-            ),
-            ("same, T' has fewer rows than T", self.smaller_by_rows, 50),
-        ]
-    }
-}
+/// What more than half of the pairs have.
+const MORE_THAN_HALF: [&str; 2] = [
+    "T has a bound for each output",
+    "T' has a bound for each output",
+];
 
 /// What a call returns and what its area holds afterwards.
 struct Call {
@@ -167,6 +101,13 @@ fn meets_bounds(answer: &Answer, job: &Job) -> bool {
             .all(|(numerator, bound)| numerator.len() <= bound + 1)
 }
 
+/// Whether the larger job holds every row of the smaller one that speaks.
+fn holds_speaking_rows(pair: &Pair) -> bool {
+    let speaks = |row: &&Row| pair.smaller.mark(row) != Some(Mark::Silent);
+    let mut speaking = pair.smaller.rows.iter().filter(speaks);
+    speaking.all(|row| place_in(&pair.larger, row).is_some())
+}
+
 fn try_pair(implementation: Implementation, pair: &Pair, random: &mut Random, counts: &mut Counts) {
     let describe = || {
         let name = implementation.name;
@@ -174,10 +115,7 @@ fn try_pair(implementation: Implementation, pair: &Pair, random: &mut Random, co
         let (smaller, larger) = (hex::text(&smaller), hex::text(&larger));
         format!("{name}, seed {SEED}\nsmaller {smaller}\nlarger {larger}")
     };
-    let speaks = |row: &&Row| pair.smaller.mark(row) != Some(Mark::Silent);
-    let mut speaking = pair.smaller.rows.iter().filter(speaks);
-    let is_held = speaking.all(|row| place_in(&pair.larger, row).is_some());
-    assert!(is_held, "{}", describe());
+    assert!(holds_speaking_rows(pair), "{}", describe());
     let first = call(implementation, &pair.smaller, random);
     if !first.report.is_recovered() {
         return;
@@ -198,73 +136,131 @@ fn try_pair(implementation: Implementation, pair: &Pair, random: &mut Random, co
     } else if !second.report.is_recovered() {
         assert_eq!(second.report, Report::refused(8, 0), "{}", describe());
     }
-    let bounds = [pair.smaller.error_bound, pair.larger.error_bound];
-    counts.take(pair, same, second.report.is_recovered(), wrong, bounds);
-    counts.further_wrong += usize::from(same && further_wrong > 0);
-    counts.marks.take(pair, same, &answer.denominator);
+    let outcome = Outcome {
+        smaller: &pair.smaller,
+        larger: &pair.larger,
+        denominator: &answer.denominator,
+        is_answered: second.report.is_recovered(),
+        is_same: same,
+        wrong,
+        further_wrong,
+    };
+    outcome.count(counts);
 }
 
-impl Counts {
-    fn take(&mut self, pair: &Pair, same: bool, answered: bool, wrong: usize, errors: [usize; 2]) {
-        let (smaller, larger) = (&pair.smaller, &pair.larger);
-        self.pairs += 1;
-        self.same += usize::from(same);
-        self.same_with_all_errors += usize::from(same && wrong == errors[1]);
-        self.refused += usize::from(!answered);
-        self.other_answer += usize::from(answered && !same);
-        self.one_too_many += usize::from(wrong == errors[1] + 1);
-        self.no_further_rows += usize::from(larger.rows.len() == smaller.rows.len());
-        self.fewer_errors_allowed += usize::from(errors[1] < errors[0]);
-        self.smaller_bound += usize::from(
-            larger.numerator_bound() < smaller.numerator_bound()
-                || larger.denominator_bound < smaller.denominator_bound,
-        );
-        let [first, second] = [smaller, larger].map(|job| usize::from(job.header.is_longer()));
-        self.headers[first][second] += 1;
-        let bounds = || {
-            larger
-                .numerator_bounds
-                .iter()
-                .zip(&smaller.numerator_bounds)
-        };
-        self.own_bound_below += usize::from(same && bounds().any(|(own, other)| own < other));
-        self.own_bound_above += usize::from(same && bounds().any(|(own, other)| own > other));
-        self.differing += usize::from(same && !larger.has_equal_bounds());
+/// What became of a pair whose smaller job is answered within the larger one's bounds.
+struct Outcome<'a> {
+    smaller: &'a Job,
+    larger: &'a Job,
+    /// g of the smaller job's answer.
+    denominator: &'a [u32],
+    is_answered: bool,
+    /// Whether the larger job is answered with the same fraction.
+    is_same: bool,
+    /// k + w, and w.
+    wrong: usize,
+    further_wrong: usize,
+}
+
+impl Outcome<'_> {
+    fn count(&self, counts: &mut Counts) {
+        let (smaller, larger, is_same) = (self.smaller, self.larger, self.is_same);
+        let errors = larger.error_bound;
+        counts.add("pairs", true);
+        counts.add("k + w within E', same fraction", is_same);
+        counts.add("k + w equal to E'", is_same && self.wrong == errors);
+        counts.add("k + w equal to E' + 1", self.wrong == errors + 1);
+        counts.add("larger job refused", !self.is_answered);
+        let is_other = self.is_answered && !is_same;
+        counts.add("larger job answered otherwise", is_other);
+        let is_full = larger.rows.len() == smaller.rows.len();
+        counts.add("no further rows", is_full);
+        counts.add("E' below E", errors < smaller.error_bound);
+        let is_below = larger.numerator_bound() < smaller.numerator_bound()
+            || larger.denominator_bound < smaller.denominator_bound;
+        counts.add("df' below df or dg' below dg", is_below);
+        let has_wrong = is_same && self.further_wrong > 0;
+        counts.add("same fraction, wrong further rows", has_wrong);
+        self.count_bounds(counts);
+        self.count_flags(counts);
+        if is_same {
+            self.count_silent_rows(counts);
+            self.count_further_marks(counts);
+        }
     }
 
-    fn lines(&self) -> [(&'static str, usize, usize); 19] {
-        let [[both_short, to_longer], [to_short, both_longer]] = self.headers;
-        let (smaller, larger) = (to_short + both_longer, to_longer + both_longer);
-        let half = self.pairs / 2 + 1;
-        [
-            ("longer header of T", smaller, half),
-            ("longer header of T'", larger, half),
-            ("both headers short", both_short, 500),
-            ("T short, T' longer", to_longer, 1000),
-            ("T longer, T' short", to_short, 1000),
-            ("both headers longer", both_longer, 2000),
-            (
-                "same fraction, a bound of f below T's",
-                self.own_bound_below,
-                1000,
-            ),
-            (
-                "same fraction, a bound of f above T's",
-                self.own_bound_above,
-                500,
-            ),
-            ("same fraction, bounds of T' differ", self.differing, 1000),
-            ("pairs", self.pairs, 10_000),
-            ("k + w within E', same fraction", self.same, 4000),
-            ("k + w equal to E'", self.same_with_all_errors, 1000),
-            ("k + w equal to E' + 1", self.one_too_many, 500),
-            ("larger job refused", self.refused, 1500),
-            ("larger job answered otherwise", self.other_answer, 20),
-            ("no further rows", self.no_further_rows, 500),
-            ("E' below E", self.fewer_errors_allowed, 500),
-            ("df' below df or dg' below dg", self.smaller_bound, 500),
-            ("same fraction, wrong further rows", self.further_wrong, 500),
-        ]
+    /// Which of the jobs has a bound for each output, and how these compare.
+    fn count_bounds(&self, counts: &mut Counts) {
+        let (smaller, larger) = (self.smaller, self.larger);
+        let have = [smaller, larger].map(|job| job.header.has_own_bounds());
+        for (name, has) in MORE_THAN_HALF.into_iter().zip(have) {
+            counts.add(name, has);
+        }
+        let which = match have {
+            [false, false] => "neither has a bound for each output",
+            [false, true] => "T' alone has a bound for each output",
+            [true, false] => "T alone has a bound for each output",
+            [true, true] => "both have a bound for each output",
+        };
+        counts.add(which, true);
+        let bounds = larger.numerator_bounds.iter();
+        let bounds: Vec<_> = bounds.zip(&smaller.numerator_bounds).collect();
+        let is_below = bounds.iter().any(|(own, other)| own < other);
+        let is_above = bounds.iter().any(|(own, other)| own > other);
+        let name = "same fraction, a bound of f below T's";
+        counts.add(name, self.is_same && is_below);
+        let name = "same fraction, a bound of f above T's";
+        counts.add(name, self.is_same && is_above);
+        let differ = self.is_same && !larger.has_equal_bounds();
+        counts.add("same fraction, bounds of T' differ", differ);
+    }
+
+    fn count_flags(&self, counts: &mut Counts) {
+        let jobs = [self.smaller, self.larger];
+        let flags = jobs.map(|job| job.header == HeaderForm::Flagged);
+        counts.add("the flag of T alone", flags == [true, false]);
+        counts.add("the flag of T' alone", flags == [false, true]);
+        let both = self.is_same && flags == [true, true];
+        counts.add("both flags, same fraction", both);
+    }
+
+    /// What T reports and is silent of, and whether T' holds it, where the fraction is the same.
+    fn count_silent_rows(&self, counts: &mut Counts) {
+        let (smaller, larger) = (self.smaller, self.larger);
+        let is_shorter = larger.rows.len() < smaller.rows.len();
+        counts.add("same, T' has fewer rows than T", is_shorter);
+        let has_poles = !smaller.marked(Mark::Pole).is_empty();
+        counts.add("same, T has reported poles", has_poles);
+        let silent = smaller.marked(Mark::Silent).into_iter();
+        let (held, gone): (Vec<usize>, Vec<usize>) =
+            silent.partition(|&row| place_in(larger, &smaller.rows[row]).is_some());
+        let has_point = |&row: &usize| {
+            let point = smaller.rows[row].point;
+            larger.rows.iter().any(|other| other.point == point)
+        };
+        counts.add("same, T' holds silent rows of T", !held.is_empty());
+        let is_replaced = gone.iter().any(has_point);
+        counts.add("same, silent rows of T speak in T'", is_replaced);
+        let is_lacking = !gone.iter().all(has_point);
+        counts.add("same, T' lacks silent rows of T", is_lacking);
+    }
+
+    /// What the further rows report and are silent of, where the fraction is the same.
+    fn count_further_marks(&self, counts: &mut Counts) {
+        for (name, mark, is_root) in [
+            ("same, silent further rows", Mark::Silent, false),
+            ("same, one of them at a root", Mark::Silent, true),
+            ("same, further poles told rightly", Mark::Pole, true),
+            ("same, further poles told wrongly", Mark::Pole, false),
+        ] {
+            let mut rows = self.larger.marked(mark).into_iter();
+            let is_there = rows.any(|row| {
+                let row = &self.larger.rows[row];
+                let value = value_at(self.denominator, row.point, self.larger.prime());
+                place_in(self.smaller, row).is_none() && (value == 0) == is_root
+            });
+            counts.add(name, is_there);
+        }
     }
 }
 
@@ -281,13 +277,10 @@ fn the_larger_job_follows_the_rule() {
                 &mut counts,
             );
         }
-        let mut text = format!("\nenlargement rule, {}\n", implementation.name);
-        let lines = [&counts.lines()[..], &counts.marks.lines()].concat();
-        for (name, count, floor) in &lines {
-            text += &format!("{name:<38}{count:>8}  floor {floor:>6}\n");
-        }
-        show(&text);
-        let is_enough = lines.iter().all(|(_, count, floor)| count >= floor);
-        assert!(is_enough, "too few of a kind");
+        let half = counts.of("pairs") / 2 + 1;
+        let most = MORE_THAN_HALF.map(|name| (name, half));
+        let floors = [&most[..], &FLOORS].concat();
+        let title = format!("enlargement rule, {}", implementation.name);
+        conclude(&title, counts.against(&floors));
     }
 }

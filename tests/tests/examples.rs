@@ -2,7 +2,7 @@
 
 use hanthuvelo::{hex, readable};
 use outside_checks::layout::{HeaderForm, Job, LONGEST_JOB};
-use outside_checks::paper::EXAMPLES;
+use outside_checks::paper::examples;
 use outside_checks::second::printed;
 use std::fs;
 use std::path::PathBuf;
@@ -34,7 +34,7 @@ fn names() -> Vec<String> {
 
 #[test]
 fn the_files_of_the_paper_pack_into_its_bytes() {
-    for (index, example) in EXAMPLES[..12].iter().enumerate() {
+    for (index, example) in examples()[..12].iter().enumerate() {
         let name = format!("h{:02}.job", index + 1);
         assert_eq!(example.name, format!("H{}", index + 1));
         let expected = hex::bytes(example.job).expect("the paper's job");
@@ -63,7 +63,7 @@ fn one_byte_more_than_the_longest_job() {
     assert_eq!(short.len(), 313);
     let text = printed(&short);
     assert!(text.starts_with("recovered 6\n"));
-    let longer = Job::unpack(&short).under(HeaderForm::Longer).pack();
+    let longer = Job::unpack(&short).under(HeaderForm::OwnBounds).pack();
     assert_eq!(longer.len(), LONGEST_JOB);
     assert_eq!(printed(&longer), text);
     for mut input in [short, longer] {

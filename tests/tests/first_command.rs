@@ -1,6 +1,8 @@
 //! `examples/run`, the first command: what it prints where, with a job, without one, and while it proves.
 #![cfg(feature = "program")]
 
+use outside_checks::crates::Crates;
+use outside_checks::empty_folder;
 use std::fs;
 use std::io::{BufRead, BufReader, Read};
 use std::os::unix::fs::PermissionsExt;
@@ -39,36 +41,19 @@ fn example(name: &str) -> String {
 
 /// A folder of this test's own with an `rt` that does what the lines of shell say.
 fn with_stub(name: &str, lines: &str) -> PathBuf {
-    let folder = PathBuf::from(env!("CARGO_TARGET_TMPDIR")).join(name);
-    let _ = fs::remove_dir_all(&folder);
-    fs::create_dir_all(&folder).expect("a folder");
+    let folder = empty_folder(env!("CARGO_TARGET_TMPDIR"), name);
     let path = folder.join("rt");
     fs::write(&path, format!("#!/bin/sh\n{lines}")).expect("a script");
     fs::set_permissions(&path, fs::Permissions::from_mode(0o755)).expect("a script that runs");
     folder
 }
 
-/// The crates of the repository that the program needs, read from `crates.txt`.
+/// The crates of the repository that the program needs, itself among them.
 fn needed() -> Vec<String> {
-    let list = fs::read_to_string(format!("{ROOT}/crates.txt")).expect("the list of crates");
-    let lines: Vec<(&str, &str)> = list
-        .lines()
-        .filter(|line| !line.starts_with('#'))
-        .filter_map(|line| line.split_once(':'))
-        .collect();
-    let mut found = vec!["recover".to_string()];
-    let mut next = 0;
-    while next < found.len() {
-        let entry = lines.iter().find(|(name, _)| *name == found[next]);
-        for other in entry.expect("a listed crate").1.split_whitespace() {
-            let listed = lines.iter().any(|(name, _)| *name == other);
-            if listed && !found.iter().any(|name| name == other) {
-                found.push(other.to_string());
-            }
-        }
-        next += 1;
-    }
-    found
+    let crates = Crates::of_repository();
+    let below = crates.below("print").into_iter();
+    let listed = below.filter(|name| crates.find(name).is_some());
+    std::iter::once("print".to_string()).chain(listed).collect()
 }
 
 #[test]

@@ -1,6 +1,7 @@
 //! `install`: what it puts where, and a C program that is built by pkg-config's flags alone.
 #![cfg(all(feature = "library", feature = "program"))]
 
+use outside_checks::empty_folder;
 use std::fs;
 use std::os::unix::fs::PermissionsExt;
 use std::path::{Path, PathBuf};
@@ -16,10 +17,7 @@ const FILES: [&str; 5] = [
 ];
 
 fn folder(name: &str) -> PathBuf {
-    let folder = Path::new(env!("CARGO_TARGET_TMPDIR")).join(name);
-    let _ = fs::remove_dir_all(&folder);
-    fs::create_dir_all(&folder).expect("a folder");
-    folder
+    empty_folder(env!("CARGO_TARGET_TMPDIR"), name)
 }
 
 /// Runs a command that must end well; what it prints.

@@ -5,13 +5,14 @@
 
 use hanthuvelo::{hex, Judgement, Report, LONGEST_ANSWER};
 use outside_checks::definition::{
-    answers, faults, for_each_list, for_each_marked_job, for_each_smallest_job, Fault,
+    answers, faults, for_each_list, for_each_smallest_job, for_each_smallest_job_with_marks, Fault,
 };
 use outside_checks::jobs::judged::{generate, Pair, Tally};
-use outside_checks::jobs::{self, Expected};
+use outside_checks::jobs::{self, Counts, Expected};
 use outside_checks::layout::{row_bit, Answer, Job};
 use outside_checks::{
-    conclude, expect_repeatable, implementations, judges, setting, show, Implementation, Judge,
+    conclude, expect_repeatable, implementations, judges, run_title, setting, show, Implementation,
+    Judge,
 };
 
 const SEED: u64 = 4_294_967_291;
@@ -83,22 +84,14 @@ fn all_judges_agree_on_generated_pairs() {
         let has_answer = is_recovered(recovery, &judges, &pair, judgement);
         tally.count(&pair, judgement, &faults, has_answer);
     }
-    let names: Vec<&str> = judges.iter().map(|each| each.name).collect();
-    let names = names.join(", ");
-    let title = format!("seed {seed}, judged by: {names}, the definition");
-    conclude(&title, tally.summary());
+    let names = judges.iter().map(|each| each.name);
+    let names = names.chain(["the definition"]);
+    conclude(&run_title(seed, "judged by", names), tally.summary());
 }
 
 #[test]
 fn the_generator_repeats_itself() {
     expect_repeatable(SEED, |seed, index| generate(seed, index).describe());
-}
-
-#[derive(Default)]
-struct Counts {
-    jobs: usize,
-    solvable: usize,
-    offered: usize,
 }
 
 /// Offers for a job modulo 7 under this header all coefficients from 0 to 7 with every word of its
@@ -107,7 +100,7 @@ fn judge_all_small(judges: &[Judge], job: &Job, counts: &mut Counts) {
     let found = answers(job);
     assert!(found.len() <= 1, "two answers: {job:?}");
     let right = found.first().map(|answer| answer.pack(job));
-    assert_eq!(recovered(job), right, "{job:?}");
+    assert_eq!(implementations()[0].answer(job), right, "{job:?}");
     let row_count = job.rows.len();
     let known = found.first().map_or(0, |answer| answer.word);
     let words = (0..1 << row_count).map(|marks: u32| marks << (32 - row_count));
@@ -115,7 +108,7 @@ fn judge_all_small(judges: &[Judge], job: &Job, counts: &mut Counts) {
     let words: Vec<u32> = words.chain(further).collect();
     let bytes = job.pack();
     let mut offered = vec![0; job.answer_length()];
-    let mut yes = vec![0; judges.len()];
+    let (mut yes, mut count) = (vec![0; judges.len()], 0);
     for_each_list(offered.len() / 2 - 2, 8, &mut |coefficients| {
         for (place, &number) in offered[4..].chunks_mut(2).zip(coefficients) {
             place.copy_from_slice(&(number as u16).to_be_bytes());
@@ -128,20 +121,14 @@ fn judge_all_small(judges: &[Judge], job: &Job, counts: &mut Counts) {
                 assert_eq!(judgement, expected, "{} {job:?} {offered:02X?}", judge.name);
                 *yes += usize::from(judgement.is_yes());
             }
-            counts.offered += 1;
+            count += 1;
         }
     });
     assert!(yes.iter().all(|&yes| yes == found.len()), "{yes:?} {job:?}");
-    counts.jobs += 1;
-    counts.solvable += found.len();
-}
-
-/// What the recovery of a well formed job writes.
-fn recovered(job: &Job) -> Option<Vec<u8>> {
-    let mut area = vec![0; job.answer_length()];
-    let report = (implementations()[0].recover)(&job.pack(), &mut area);
-    assert!(matches!(report.refusal, 0 | 8), "{report:?} {job:?}");
-    report.is_recovered().then_some(area)
+    counts.add("jobs", true);
+    counts.add("jobs with an answer", right.is_some());
+    counts.add("jobs without an answer", right.is_none());
+    counts.add_number("offered answers", count);
 }
 
 /// The bound of each f, dg, E, and every so many lists of values at the points 0 to L − 1.
@@ -159,8 +146,8 @@ const SMALLEST: [(&[usize], usize, usize, usize); 11] = [
     (&[0, 1], 0, 0, 211),
 ];
 
-/// The same with marked rows: how many rows more than needed stands before the stride.
-const SMALLEST_MARKED: [(&[usize], usize, usize, usize, usize); 6] = [
+/// The same with rows that report a pole or are silent: how many rows more than needed stands before the stride.
+const SMALLEST_WITH_MARKS: [(&[usize], usize, usize, usize, usize); 6] = [
     (&[0], 0, 0, 1, 1),
     (&[0], 1, 0, 1, 11),
     (&[1], 0, 0, 1, 13),
@@ -183,45 +170,40 @@ fn all_small_offers_for_the_smallest_jobs() {
             }
         });
     }
-    counts.conclude("the smallest jobs");
-    let Counts {
-        jobs,
-        solvable,
-        offered,
-    } = counts;
-    assert!(jobs >= 1200 && solvable >= 600 && jobs - solvable >= 400 && offered > 10_000_000);
+    let floors = [
+        ("jobs", 1200),
+        ("jobs with an answer", 600),
+        ("jobs without an answer", 400),
+        ("offered answers", 30_000_000),
+    ];
+    conclude(
+        "all small offers for the smallest jobs",
+        counts.against(&floors),
+    );
 }
 
-/// With marked rows, whatever the words say of rows that report a pole or are silent.
+/// Whatever the words say of rows that report a pole or are silent.
 #[test]
-fn all_small_offers_for_the_smallest_marked_jobs() {
+fn all_small_offers_for_the_smallest_jobs_with_poles_and_silent_rows() {
     let judges = judges();
     let mut counts = Counts::default();
-    for (bounds, dg, errors, surplus, stride) in SMALLEST_MARKED {
+    for (bounds, dg, errors, surplus, stride) in SMALLEST_WITH_MARKS {
         let mut number = 0;
-        for_each_marked_job((bounds, dg, errors), surplus, &mut |job| {
+        for_each_smallest_job_with_marks((bounds, dg, errors), surplus, &mut |job| {
             number += 1;
             if number % stride == 0 {
                 judge_all_small(&judges, job, &mut counts);
             }
         });
     }
-    counts.conclude("the smallest marked jobs");
-    let Counts { jobs, solvable, .. } = counts;
-    assert!(jobs >= 150 && solvable >= 50 && jobs - solvable >= 80);
-}
-
-impl Counts {
-    fn conclude(&self, name: &str) {
-        let Counts {
-            jobs,
-            solvable,
-            offered,
-        } = self;
-        show(&format!(
-            "all coefficients up to 7 and all words, for {name}: {jobs} jobs, {solvable} with an answer, {offered} offered\n"
-        ));
-    }
+    let floors = [
+        ("jobs", 150),
+        ("jobs with an answer", 50),
+        ("jobs without an answer", 80),
+        ("offered answers", 3_000_000),
+    ];
+    let title = "all small offers for the smallest jobs with poles and silent rows";
+    conclude(title, counts.against(&floors));
 }
 
 #[test]

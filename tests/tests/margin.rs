@@ -6,10 +6,11 @@
 use hanthuvelo::{hex, Report};
 use outside_checks::compared::Compared;
 use outside_checks::definition::{
-    for_each_marked_job, for_each_smallest_job, Nearest, Vectors, SMALLEST, SMALLEST_MARKED,
+    for_each_smallest_job, for_each_smallest_job_with_marks, Nearest, Vectors, SMALLEST,
+    SMALLEST_WITH_MARKS,
 };
 use outside_checks::jobs::margin::{read, wrong_numbers, Tally};
-use outside_checks::jobs::small::{small_job, small_jobs, small_marked_job};
+use outside_checks::jobs::small::{small_job, small_job_with_marks, small_jobs};
 use outside_checks::jobs::{form, generate, with_floors, Counts, Random};
 use outside_checks::layout::{Answer, Job, Mark};
 use outside_checks::{conclude, implementations, margins, setting, Margin};
@@ -216,10 +217,10 @@ fn no_other_vector_is_nearer_for_the_smallest_jobs() {
 
 /// All values and marks of smallest jobs, and of those with a row more.
 #[test]
-fn no_other_vector_is_nearer_for_the_smallest_marked_jobs() {
+fn no_other_vector_is_nearer_for_the_smallest_jobs_with_poles_and_silent_rows() {
     let mut distances = Distances::default();
-    for (bounds, dg, errors, surplus) in SMALLEST_MARKED {
-        for_each_marked_job((bounds, dg, errors), surplus, &mut |job| {
+    for (bounds, dg, errors, surplus) in SMALLEST_WITH_MARKS {
+        for_each_smallest_job_with_marks((bounds, dg, errors), surplus, &mut |job| {
             distances.compare(job);
         });
     }
@@ -233,14 +234,14 @@ fn no_other_vector_is_nearer_for_the_smallest_marked_jobs() {
         ("bounds that differ", 900, 900),
         ("more rows than needed", 12_000, 11_000),
     ];
-    distances.conclude("the smallest marked jobs", &floors);
+    distances.conclude("the smallest jobs with poles and silent rows", &floors);
 }
 
 #[test]
 fn no_other_vector_is_nearer_for_random_small_jobs() {
     let seed = setting("SEED", SEED);
     let mut distances = Distances::default();
-    for draw in [small_job, small_marked_job] {
+    for draw in [small_job, small_job_with_marks] {
         for (number, (is_wanted, most)) in WANTED.into_iter().enumerate() {
             let random = Random::new(seed, number as u64);
             for job in small_jobs(random, (3000, most), draw, is_wanted) {

@@ -1,10 +1,10 @@
-//! The examples of paper 01, and those of the longer header and of marked rows, against every implementation.
+//! The examples of paper 01, and those of a bound for each output and of poles and silent rows, against every implementation.
 
 use hanthuvelo::{hex, Form, Judgement, Report, Written};
 use outside_checks::layout::{HeaderForm, Job};
 use outside_checks::paper::{
-    Example, BOUNDS_PRINTED, EXAMPLES, H1_PRINTED, LONGER, LONGER_REFUSALS, MARGINS, MARKS,
-    MARKS_REFUSALS, NOT_ANSWERS, NOT_ANSWERS_WITH_MARKS, POLE_PRINTED, REFUSALS,
+    every_example, every_refusal, example, examples, not_answers, refusals, Example,
+    BOUNDS_PRINTED, H1_PRINTED, MARGINS, POLE_PRINTED,
 };
 use outside_checks::second;
 use outside_checks::{checkers, implementations, judges, margins, writers, Implementation, Margin};
@@ -26,75 +26,63 @@ fn try_example(implementation: Implementation, example: &Example, surplus: usize
 }
 
 #[test]
-fn the_twelve_examples() {
+fn every_example_is_answered_as_it_says() {
     for implementation in implementations() {
-        for example in &EXAMPLES {
-            try_example(implementation, example, 0);
+        for example in every_example() {
+            try_example(implementation, &example, 0);
             if example.report.refusal != 7 {
-                try_example(implementation, example, SURPLUS);
+                try_example(implementation, &example, SURPLUS);
             }
         }
     }
 }
 
 #[test]
-fn the_refusals_of_the_table() {
+fn every_refusal_is_given() {
     for implementation in implementations() {
-        for example in &REFUSALS {
-            try_example(implementation, example, 0);
+        for example in every_refusal() {
+            try_example(implementation, &example, 0);
         }
     }
 }
 
+/// Every example of paper 01 of three bytes or more, but for the one of refusal 2, is answered alike where each output has the
+/// bound df of its own, with the flag and without.
 #[test]
-fn the_examples_of_the_longer_header_and_of_marked_rows() {
-    for implementation in implementations() {
-        for example in LONGER.iter().chain(&MARKS) {
-            try_example(implementation, example, 0);
-            try_example(implementation, example, SURPLUS);
-        }
-        for example in LONGER_REFUSALS.iter().chain(&MARKS_REFUSALS) {
-            try_example(implementation, example, 0);
-        }
-    }
-}
-
-/// Every example of paper 01 of three bytes or more, but for the one of refusal 2, is answered alike under the longer
-/// header with equal bounds, with the flag and without.
-#[test]
-fn the_examples_of_the_paper_under_the_longer_header() {
+fn the_examples_of_the_paper_with_a_bound_for_each_output() {
     let mut count = 0;
-    for example in EXAMPLES.iter().chain(&REFUSALS) {
+    let all = [examples(), refusals()].concat();
+    for example in &all {
         let job = paper_bytes(example.job);
-        if job.len() < 3 || HeaderForm::of(&job).is_longer() {
+        if job.len() < 3 || HeaderForm::of(&job).has_own_bounds() {
             continue;
         }
         let header = Job::unpack(&job[..3]);
-        for form in [HeaderForm::Longer, HeaderForm::Flagged] {
-            let mut longer = job.clone();
-            longer[2] |= 1;
+        for form in [HeaderForm::OwnBounds, HeaderForm::Flagged] {
+            let mut with_bounds = job.clone();
+            with_bounds[2] |= 1;
             let bounds = header.under(form).packed_header();
-            longer.splice(3..3, bounds[3..].iter().copied());
+            with_bounds.splice(3..3, bounds[3..].iter().copied());
             for implementation in implementations() {
                 let mut area = vec![0xA5; example.area_length];
                 let mut expected = area.clone();
                 let answer = paper_bytes(example.answer);
                 expected[..answer.len()].copy_from_slice(&answer);
-                let report = (implementation.recover)(&longer, &mut area);
+                let report = (implementation.recover)(&with_bounds, &mut area);
                 let name = format!("{} by {}", example.name, implementation.name);
                 assert_eq!((report, area), (example.report, expected), "{name}");
             }
             count += 1;
         }
     }
-    assert_eq!(count, 2 * (EXAMPLES.len() + REFUSALS.len() - 2));
+    assert_eq!(count, 2 * (13 + 10 - 2));
 }
 
 /// Each of the twelve flags but the first alone, with H1's job.
 #[test]
 fn every_other_flag_is_refused() {
     for flag in 0..11 {
-        let mut job = paper_bytes(LONGER[0].job);
+        let mut job = paper_bytes(example("H1 with its own bound").job);
         job[5] |= (1u16 << flag).to_be_bytes()[0];
         job[6] |= (1u16 << flag).to_be_bytes()[1];
         for implementation in implementations() {
@@ -114,7 +102,7 @@ fn an_empty_job_and_an_empty_area() {
             "{}",
             implementation.name
         );
-        let job = paper_bytes(EXAMPLES[0].job);
+        let job = paper_bytes(example("H1").job);
         assert_eq!(
             (implementation.recover)(&job, &mut []).refusal,
             7,
@@ -128,7 +116,8 @@ fn an_empty_job_and_an_empty_area() {
 /// header has 7 bytes and its coefficients 16.
 #[test]
 fn the_example_of_bounds_is_a_trial_job() {
-    let (job, answer) = (paper_bytes(LONGER[1].job), paper_bytes(LONGER[1].answer));
+    let known = example("bounds 2, 0, 1");
+    let (job, answer) = (paper_bytes(known.job), paper_bytes(known.answer));
     let surplus = [&answer[4..], &[0, 0]].concat();
     for writer in writers() {
         let refusal = |header: &[u8], coefficients: &[u8], area_length: usize| {
@@ -170,30 +159,24 @@ fn paper_bytes(text: &str) -> Vec<u8> {
     hex::bytes(text).expect("the paper's bytes")
 }
 
-fn example(name: &str) -> &'static Example {
-    let mut all = EXAMPLES.iter().chain(&LONGER).chain(&MARKS);
-    let found = all.find(|example| example.name == name);
-    found.expect("an example")
-}
-
 /// The paper's own answers are a yes, and with another number of bytes they are refused.
 #[test]
 fn the_answers_of_the_examples_are_judged() {
     for judge in judges() {
-        let all = EXAMPLES.iter().chain(&LONGER).chain(&MARKS);
+        let all = every_example().into_iter();
         let answered = all.filter(|each| !each.answer.is_empty());
         for example in answered {
             let name = format!("{} by {}", example.name, judge.name);
             let (job, answer) = (paper_bytes(example.job), paper_bytes(example.answer));
             let judged = (judge.judge)(&job, &answer);
             assert_eq!(judged, Judgement::judged(true), "{name}");
-            let longer = [&answer[..], &[0]].concat();
-            for other in [&longer, &answer[1..], &answer[4..], &[]] {
+            let with_surplus = [&answer[..], &[0]].concat();
+            for other in [&with_surplus, &answer[1..], &answer[4..], &[]] {
                 let judged = (judge.judge)(&job, other);
                 assert_eq!(judged, Judgement::refused(3, 0), "{name}");
             }
         }
-        for (name, offered) in NOT_ANSWERS.into_iter().chain(NOT_ANSWERS_WITH_MARKS) {
+        for (name, offered) in not_answers() {
             let job = paper_bytes(example(name).job);
             let judged = (judge.judge)(&job, &paper_bytes(offered));
             let name = format!("{name} {offered} by {}", judge.name);
@@ -222,8 +205,7 @@ fn an_answer_has_each_outputs_own_bound() {
 #[test]
 fn the_refusals_of_the_table_are_those_of_a_judgement() {
     for judge in judges() {
-        let all = REFUSALS.iter().chain([example("H11")]);
-        for example in all.chain(&LONGER_REFUSALS).chain(&MARKS_REFUSALS) {
+        for example in every_refusal().into_iter().chain([example("H11")]) {
             let (job, report) = (paper_bytes(example.job), example.report);
             for length in [0, 7, 8, 9, 12, 14, 254] {
                 let judged = (judge.judge)(&job, &vec![0; length]);
@@ -246,10 +228,7 @@ fn the_refusals_of_the_table_are_those_of_a_judgement() {
 #[test]
 fn the_form_of_each_example_is_checked() {
     for checker in checkers() {
-        let longer = LONGER.iter().chain(&LONGER_REFUSALS);
-        let marks = MARKS.iter().chain(&MARKS_REFUSALS);
-        let all = EXAMPLES.iter().chain(&REFUSALS);
-        for example in all.chain(longer).chain(marks) {
+        for example in every_example().into_iter().chain(every_refusal()) {
             let expected = match example.report {
                 Report {
                     refusal: number @ (1..=6 | 11 | 12),
@@ -274,8 +253,7 @@ fn the_margins_of_the_examples() {
             let job = paper_bytes(example(example_name).job);
             assert_eq!(find(&job, wrong), margin, "{example_name} by {name}");
         }
-        let all = REFUSALS.iter().chain(&LONGER_REFUSALS);
-        for example in all.chain(&MARKS_REFUSALS) {
+        for example in every_refusal() {
             let job = paper_bytes(example.job);
             let has_margin = matches!(example.report.refusal, 7 | 8);
             assert_eq!(find(&job, 0) > 0, has_margin, "{} by {name}", example.name);
@@ -284,7 +262,10 @@ fn the_margins_of_the_examples() {
         assert_eq!(find(&[], 0), 0, "{name}");
     }
     // Each answer is among them, with its number of wrong rows.
-    for example in EXAMPLES[..12].iter().filter(|each| !each.answer.is_empty()) {
+    for example in examples()[..12]
+        .iter()
+        .filter(|each| !each.answer.is_empty())
+    {
         let mut listed = MARGINS.iter();
         let is_listed =
             listed.any(|(name, wrong, _)| *name == example.name && *wrong == example.report.wrong);
@@ -309,7 +290,7 @@ fn the_printed_text_of_the_second_solver() {
     );
     assert_eq!(printed("H11"), "refused 5 0\n");
     assert_eq!(second::printed(&[]), "refused 1 0\n");
-    assert_eq!(printed("H1 longer"), H1_PRINTED);
+    assert_eq!(printed("H1 with its own bound"), H1_PRINTED);
     assert_eq!(printed("bounds 2, 0, 1"), BOUNDS_PRINTED);
     assert_eq!(printed("bounds 1, 0"), "refused 8 0\n");
     assert_eq!(printed("two outputs and a pole"), POLE_PRINTED);

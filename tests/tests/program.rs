@@ -5,8 +5,7 @@ use hanthuvelo::hex;
 use outside_checks::jobs::{generate, Random};
 use outside_checks::layout::HeaderForm;
 use outside_checks::paper::{
-    BOUNDS_PRINTED, EXAMPLES, H1_PRINTED, LONGER, LONGER_REFUSALS, MARKS, MARKS_REFUSALS,
-    POLE_PRINTED, REFUSALS,
+    every_example, every_refusal, example, BOUNDS_PRINTED, H1_PRINTED, POLE_PRINTED,
 };
 use outside_checks::program::{run, run_redirected, run_unread};
 use outside_checks::second::printed;
@@ -32,20 +31,17 @@ fn compare(pieces: &[&[u8]]) -> String {
 
 #[test]
 fn the_papers_examples() {
-    let longer = LONGER.iter().chain(&LONGER_REFUSALS);
-    let marks = MARKS.iter().chain(&MARKS_REFUSALS);
-    let all = EXAMPLES.iter().chain(&REFUSALS);
-    for example in all.chain(longer).chain(marks) {
+    for example in every_example().into_iter().chain(every_refusal()) {
         compare(&[&hex::bytes(example.job).expect("the paper's job")]);
     }
     let printed = [
-        (&EXAMPLES[0], H1_PRINTED),
-        (&LONGER[0], H1_PRINTED),
-        (&LONGER[1], BOUNDS_PRINTED),
-        (&MARKS[0], POLE_PRINTED),
+        ("H1", H1_PRINTED),
+        ("H1 with its own bound", H1_PRINTED),
+        ("bounds 2, 0, 1", BOUNDS_PRINTED),
+        ("two outputs and a pole", POLE_PRINTED),
     ];
-    for (example, text) in printed {
-        let job = hex::bytes(example.job).expect("an example's job");
+    for (name, text) in printed {
+        let job = hex::bytes(example(name).job).expect("an example's job");
         assert_eq!(compare(&[&job]), text);
     }
 }
@@ -87,7 +83,7 @@ fn closed_input() {
 /// The text has nowhere to go; the program ends all the same, and says nothing elsewhere.
 #[test]
 fn output_not_taken() {
-    let h1 = hex::bytes(EXAMPLES[0].job).expect("the paper's job");
+    let h1 = hex::bytes(example("H1").job).expect("the paper's job");
     for redirection in [">&-", "> /dev/full"] {
         let output = run_redirected(redirection, &h1).unwrap_or_else(|message| panic!("{message}"));
         assert!(

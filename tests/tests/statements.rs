@@ -1,5 +1,6 @@
 //! The page of statements: as the files have it, and complete.
 
+use outside_checks::crates::Crates;
 use outside_checks::statements::page::Page;
 use outside_checks::statements::walk::Walk;
 use outside_checks::statements::{antt, beyond_need, complaints, repository, source, PAGE, ROOTS};
@@ -54,24 +55,27 @@ fn every_contract_stands_on_the_page() {
 }
 
 /// The crates that compute an answer: how is no part of what is promised.
-const METHOD: [&str; 16] = [
+const METHOD: [&str; 11] = [
     "reciprocal",
-    "division",
     "euclid",
     "fraction",
-    "poly_product",
-    "poly_scaled",
     "montgomery",
     "lanes",
     "evaluation",
     "pairs",
-    "pair_step",
     "interpolation",
     "candidate",
-    "vector",
     "solver",
     "reduced",
 ];
+
+/// Of a crate that is no longer there no definition would be found.
+#[test]
+fn the_crates_of_the_method_are_there() {
+    let crates = Crates::of_repository();
+    assert_eq!(crates.unlisted(&METHOD), Vec::<&str>::new());
+    assert_eq!(crates.unlisted(&["solver", "no_crate"]), ["no_crate"]);
+}
 
 /// The definitions of the method that these contracts rest on.
 fn method_below(contracts: &[(&str, &str)]) -> Vec<String> {

@@ -8,46 +8,32 @@ use outside_checks::definition::{for_each_list, is_reduced};
 use outside_checks::jobs::trial::{generate, Tally, TrialCall};
 use outside_checks::layout::{is_right, row_bit, trimmed, value_at, Answer, HeaderForm, Job, Row};
 use outside_checks::second::{trial_job, TrialJob};
-use outside_checks::{conclude, expect_repeatable, implementations, setting, show, writers};
+use outside_checks::{
+    agreed, conclude, expect_repeatable, implementations, run_title, setting, show, writers, Area,
+    Writer,
+};
 
 const SEED: u64 = 1_013_904_223;
 const CALLS: u64 = 50_000;
 
 /// What every writer returned, which must be the same, with the area, which must be the same too.
-fn agreed(call: &TrialCall) -> (Written, Vec<u8>) {
-    let mut agreed: Option<(&str, Written, Vec<u8>)> = None;
-    for writer in writers() {
+fn agreed_job(call: &TrialCall) -> (Written, Area) {
+    let outcome = |writer: Writer| {
         let mut area = call.area.clone();
-        let written = (writer.trial)(
-            &call.header,
-            &call.coefficients,
-            call.start,
-            call.spoiled,
-            &mut area,
-        );
-        let outcome = format!("{}: {written:?}\n{}", writer.name, hex::text(&area));
-        let describe = || format!("{outcome}\n{}", call.describe());
+        let (header, coefficients) = (&call.header, &call.coefficients);
+        let written = (writer.trial)(header, coefficients, call.start, call.spoiled, &mut area);
+        let outcome = || format!("{}: {written:?}\n{}", writer.name, hex::text(&area));
+        let describe = || format!("{}\n{}", outcome(), call.describe());
         let expected = call.expected.unwrap_or(written.refusal);
         assert_eq!(written.refusal, expected, "{}", describe());
-        assert!(
-            written.is_written() || written == Written::refused(expected),
-            "{}",
-            describe()
-        );
+        let is_refused = written == Written::refused(expected);
+        assert!(written.is_written() || is_refused, "{}", describe());
         let kept = written.written as usize;
         assert!(area[kept..] == call.area[kept..], "behind\n{}", describe());
-        match &agreed {
-            None => agreed = Some((writer.name, written, area)),
-            Some((name, first, other)) => assert!(
-                written == *first && area == *other,
-                "{name}: {first:?}\n{}\n{}",
-                hex::text(other),
-                describe()
-            ),
-        }
-    }
-    let (_, written, area) = agreed.expect("there is a writer");
-    (written, area)
+        (writer.name, (written, Area(area)))
+    };
+    let outcomes = writers().into_iter().map(outcome);
+    agreed(outcomes, &|| call.describe())
 }
 
 /// Recovers a trial job. Its wrong rows are the poles and the spoiled ones; if they are E at most,
@@ -77,7 +63,7 @@ fn all_writers_agree_on_generated_calls() {
     let mut tally = Tally::default();
     for index in 0..setting("CALLS", CALLS) {
         let call = generate(seed, index);
-        let (written, area) = agreed(&call);
+        let (written, Area(area)) = agreed_job(&call);
         let (header, coefficients) = (&call.header, &call.coefficients);
         let length = call.area.len();
         let job = trial_job(header, coefficients, call.start, call.spoiled, length).ok();
@@ -86,9 +72,8 @@ fn all_writers_agree_on_generated_calls() {
         }
         tally.count(&call, written, job.as_ref());
     }
-    let names: Vec<&str> = writers().iter().map(|each| each.name).collect();
-    let title = format!("seed {seed}, trial jobs by: {}", names.join(", "));
-    conclude(&title, tally.summary());
+    let names = writers().into_iter().map(|each| each.name);
+    conclude(&run_title(seed, "trial jobs by", names), tally.summary());
 }
 
 #[test]
@@ -103,7 +88,7 @@ fn small_job(numerator_bounds: &[usize], dg: usize) -> Job {
         values: vec![0; numerator_bounds.len()],
     };
     let mut job = Job {
-        header: HeaderForm::Longer,
+        header: HeaderForm::OwnBounds,
         prime_code: 0,
         numerator_bounds: numerator_bounds.to_vec(),
         denominator_bound: dg,

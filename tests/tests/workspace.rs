@@ -1,6 +1,6 @@
 //! The Cargo workspace in a copy that has no archive of the library.
 
-use std::fs;
+use outside_checks::empty_folder;
 use std::path::{Path, PathBuf};
 use std::process::{Command, Output};
 
@@ -8,9 +8,7 @@ const ROOT: &str = concat!(env!("CARGO_MANIFEST_DIR"), "/..");
 
 /// The Rust side of the repository alone.
 fn copy(name: &str) -> PathBuf {
-    let folder = Path::new(env!("CARGO_TARGET_TMPDIR")).join(name);
-    let _ = fs::remove_dir_all(&folder);
-    fs::create_dir_all(&folder).expect("a folder");
+    let folder = empty_folder(env!("CARGO_TARGET_TMPDIR"), name);
     let copied = Command::new("cp")
         .args([
             ".cargo",

@@ -9,29 +9,26 @@ use Rattle.format.specs.declared.Bounds.{Bounds}
 use Rattle.format.specs.Bounds.{numeratorBoundOf, answerLengthOf}
 use Rattle.answer.specs.Bytes.{twoBytes, fourBytes, coefficientBytes, outputBytes, answerBytes}
 use Rattle.lists.specs.Overwriting.{overwritten, spliced}
-use Rattle.lists.proofs.Splices.{splice-splice, splice-behind}
+use Rattle.lists.proofs.Splices.{splice-more, splice-behind}
 use Rattle.answer.proofs.Lengths.{length-coefficients, length-output, length-front, answer-end}
 
-pub next-coefficient : (at : ℕ) (a : List ℕ) (k next : ℕ) (old area : List ℕ) → next ≡ at + 2 * k → next ≤ length old → area ≡ spliced at (coefficientBytes a k) old
-    → spliced next (twoBytes (getD a k 0)) area ≡ spliced at (coefficientBytes a (k + 1)) old
+pub next-coefficient : (at : ℕ) (a : List ℕ) (k written : ℕ) (old area : List ℕ) → written ≡ 2 * k → at + written ≤ length old → area ≡ spliced at (coefficientBytes a k) old
+    → spliced (at + written) (twoBytes (getD a k 0)) area ≡ spliced at (coefficientBytes a (k + 1)) old
 unfolding coefficientBytes
-next-coefficient at a k next old area place fits written =
-    let bytes = coefficientBytes a k in
-    let long = length-coefficients a k in
-    rw (place, add-one, ← long, written) (splice-splice at bytes old (omega arith) (twoBytes (getD a k 0)))
+next-coefficient at a k written old area size fits before =
+    splice-more at (coefficientBytes a k) (twoBytes (getD a k 0)) old (size ∙ sym (length-coefficients a k)) fits before
+    ∙ ap (λ j. spliced at (coefficientBytes a j) old) (sym (add-one k))
 
-module _ (b : Bounds) (f : ℕ → List ℕ) (i at next bound : ℕ) (place : next ≡ at + length (outputBytes b f i)) (known : bound ≡ numeratorBoundOf b i) where
-  pub next-place : next + 2 * (bound + 1) ≡ at + length (outputBytes b f (i + 1))
-  next-place = let e = add-one i in rw e (omega (arith, length-output b f i))
+module _ (b : Bounds) (f : ℕ → List ℕ) (i written bound : ℕ) (size : written ≡ length (outputBytes b f i)) (known : bound ≡ numeratorBoundOf b i) where
+  pub next-size : written + 2 * (bound + 1) ≡ length (outputBytes b f (i + 1))
+  next-size = let e = add-one i in rw e (omega (arith, length-output b f i))
 
-  pub next-output : (old area more : List ℕ) → next ≤ length old → area ≡ spliced at (outputBytes b f i) old
-      → more ≡ spliced next (coefficientBytes (f i) (bound + 1)) area → more ≡ spliced at (outputBytes b f (i + 1)) old
+  pub next-output : (at : ℕ) (old area more : List ℕ) → at + written ≤ length old → area ≡ spliced at (outputBytes b f i) old
+      → more ≡ spliced (at + written) (coefficientBytes (f i) (bound + 1)) area → more ≡ spliced at (outputBytes b f (i + 1)) old
   unfolding outputBytes
-  next-output old area more fits written added =
-      let bytes = coefficientBytes (f i) (numeratorBoundOf b i + 1) in
-      added
-      ∙ rw (place, known, written)
-      (splice-splice at (outputBytes b f i) old (rw place at fits) bytes ∙ ap (λ j. spliced at (outputBytes b f j) old) (sym (add-one i)))
+  next-output at old area more fits before added =
+      added ∙ rw known (splice-more at (outputBytes b f i) (coefficientBytes (f i) (numeratorBoundOf b i + 1)) old size fits before)
+      ∙ ap (λ j. spliced at (outputBytes b f j) old) (sym (add-one i))
 
 -- the word, then g, then the outputs are the whole answer
 pub whole-answer : (b : Bounds) (word : ℕ) (g : List ℕ) (f : ℕ → List ℕ) (old once twice whole : List ℕ) (next : ℕ) → answerLengthOf b ≤ length old

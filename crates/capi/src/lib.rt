@@ -60,7 +60,8 @@ pub extern "C" fn hanthuvelo_trial(
     writing_reported(writing)
 }
 
-// Any code and any number: the caller owes nothing. A code above 3 names no prime, and what is 0 modulo the prime has no reciprocal.
+// Any code and any number: the caller owes nothing. A code above 3 names no prime, and what is 0 modulo the prime has no reciprocal; the value is
+// then no residue of any prime.
 #[no_mangle]
 pub extern "C" fn hanthuvelo_reciprocal(prime_code: u32, number: u32) -> ReciprocalReport
     ensures { λ r. ⌜ r ≡ reciprocalReportOf (codedReciprocal «prime_code» number) ⌝ }

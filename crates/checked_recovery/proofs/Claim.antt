@@ -4,7 +4,6 @@ use mathlib.Core.Logic.{_⊎_, inl, inr}
 use mathlib.Core.Bool.{Bool, true, false}
 use mathlib.Core.List.{List}
 use Prim.Native.Nat.{ℕ, _<_}
-use native.Mathlib.Omega.{arith}
 use borrow.Author.Tests.{ltb-true}
 use lib.ListN.{length}
 use Rattle.format.specs.Bounds.{answerLengthOf}
@@ -20,14 +19,9 @@ use Rattle.job.proofs.Facts.{refused-not-accepted}
 use Rattle.job.proofs.Forms.{lastTest, Alike, check-alike}
 use Rattle.lists.specs.Search.{ifHolds}
 use Rattle.recovery.specs.Recovery.{RefusedEarly, Answered, RefusedUnsolvable, Settled}
-use Rattle.form_check.specs.declared.FormReport.{FormReport}
-use Rattle.form_check.specs.Reports.{formReportOf}
 use Rattle.checked_recovery.specs.CheckedRecovery.{CheckedRecovery}
 
-module _ (s : List ℕ) {c : FormReport} (C : c ≡ formReportOf (formOutcomeOf s)) (area : List ℕ) {r : Report} {after : List ℕ} (S : Settled s area r after) where
-  reported : {o : Outcome} → formOutcomeOf s ≡ o → c ≡ formReportOf o
-  reported e = C ∙ ap formReportOf e
-
+module _ (s : List ℕ) {c : Outcome} (C : c ≡ formOutcomeOf s) (area : List ℕ) {r : Report} {after : List ℕ} (S : Settled s area r after) where
   -- a job that a test before 7 refuses
   early : {o : Outcome} → (o ≡ Accepted → ⊥) → outcomeOf s (length area) ≡ o → (r ≡ reportOf o) × (after ≡ area)
   early {o} not e = by (S .cases)
@@ -58,18 +52,16 @@ module _ (s : List ℕ) {c : FormReport} (C : c ≡ formReportOf (formOutcomeOf 
     where
       by : Alike s (length area) → CheckedRecovery s area c r after
       by (inl h) =
-          let form = reported (h .3) in
-          let alike = early refused-not-accepted (h .4) in
-          let number = ap (λ (x : FormReport). x .refusal) form in record {
+          let form = C ∙ h .3 in
+          let alike = early refused-not-accepted (h .4) in record {
             first = C;
             second = S;
-            refused = λ l. (alike .0 ∙ sym (ap (λ (x : FormReport). refusedReport (x .refusal) (x .row)) form), alike .1);
-            accepted = λ zero. absurd (omega (arith, number, zero, h .2 .0));
+            refused = λ reason row e. (alike .0 ∙ ap reportOf (sym form ∙ e), alike .1);
+            accepted = λ e. absurd (refused-not-accepted (sym form ∙ e));
           }
-      by (inr h) =
-          let number = ap (λ (x : FormReport). x .refusal) (reported (h .0)) in record {
-            first = C;
-            second = S;
-            refused = λ l. absurd (omega (arith, number, l));
-            accepted = λ zero. later (h .1);
-          }
+      by (inr h) = record {
+        first = C;
+        second = S;
+        refused = λ reason row e. absurd (refused-not-accepted (sym e ∙ C ∙ h .0));
+        accepted = λ e. later (h .1);
+      }

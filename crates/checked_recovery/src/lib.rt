@@ -1,6 +1,5 @@
 // Paper 02, item 4: what the check for form says beside the recovery of the same job.
 ghost use Rattle.format.specs.Outcomes.{reportOf};
-ghost use Rattle.form_check.specs.Reports.{formReportOf};
 ghost use Rattle.checked_recovery.specs.CheckedRecovery.{CheckedRecovery};
 use format::Outcome;
 
@@ -13,7 +12,7 @@ pub struct CheckAndRecovery {
 // Checks a job for form, and recovers it into the area.
 pub fn check_and_recover(job: &[u8], area: &mut [u8]) -> CheckAndRecovery
     ensures { λ r.
-        ⌜ CheckedRecovery (now (job .entry)) (now (area .entry)) (formReportOf (r .form)) (reportOf (r .recovery)) (now (area .exit)) ⌝ }
+        ⌜ CheckedRecovery (now (job .entry)) (now (area .entry)) (r .form) (reportOf (r .recovery)) (now (area .exit)) ⌝ }
 {
     let form = form_check::check(job);
     let recovery = recovery::recover(job, area);

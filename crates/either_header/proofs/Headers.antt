@@ -12,7 +12,6 @@ use lib.ListN.{length, getD, length-drop}
 use lib.Seq.{getD-drop}
 use Rattle.lists.proofs.Order.{lt-or-ge}
 use Rattle.lists.proofs.Tabulated.{tabulate-cong}
-use Rattle.field.specs.Primes.{primeOfCode}
 use Rattle.format.specs.Bounds.{numeratorBoundOf, largestBound}
 use Rattle.format.specs.declared.Bounds.{Bounds}
 use Rattle.marked_rows.specs.Marks.{speakingCount}
@@ -20,7 +19,7 @@ use Rattle.format.proofs.Sizes.{largest-above, largest-most}
 use Rattle.cursor.specs.Bits.{fieldOf}
 use Rattle.cursor.proofs.Fields.{field-cong}
 use Rattle.header.specs.Header.{outputsOf, dfOf, headerLengthOf, numeratorBoundsOf, flagsOf, marksAllowed, boundsOf, headerOf, jobLengthOf}
-use Rattle.header.proofs.Fields.{fits-fields, bound-at}
+use Rattle.header.proofs.Fields.{fits-fields, df-by, bounds-by, bound-at}
 use Rattle.header_rules.specs.Rules.{boundsAbsent}
 use Rattle.lists.specs.Search.{isFound}
 use Rattle.lists.proofs.FirstBelow.{none-below}
@@ -41,28 +40,17 @@ module _ (s s' : List ℕ) (J : SameJob s s') where
   field-same : (at bits : ℕ) → at + bits ≤ 23 → fieldOf s' at bits ≡ fieldOf s at bits
   field-same at bits inside = field-cong s' s at at bits (λ k l. J .fields (at + k) (omega arith))
 
-  outputs-same : outputsOf s' ≡ outputsOf s
-  unfolding outputsOf
-  outputs-same = ap (λ (x : ℕ). x + 1) (field-same 2 2 (omega arith))
-
   pub df-same : dfOf s' ≡ dfOf s
   unfolding dfOf
-  df-same = field-same 9 5 (omega arith)
+  df-same = df-by s' (fieldOf s) field-same
 
   numerators-same : numeratorBoundsOf s' ≡ numeratorBoundsOf s
   unfolding numeratorBoundsOf
   numerators-same = tabulate-cong 4 _ _ (λ i l. rw (J .longer .1, J .short .1) (J .bounds i l))
 
   pub bounds-same : boundsOf s' ≡ boundsOf s
-  unfolding boundsOf
-  bounds-same = λ i. record {
-    prime = primeOfCode (field-same 0 2 (omega arith) i);
-    outputs = outputs-same i;
-    rows = field-same 4 5 (omega arith) i;
-    numerators = numerators-same i;
-    dg = field-same 14 5 (omega arith) i;
-    errors = field-same 19 4 (omega arith) i;
-  }
+  unfolding boundsOf outputsOf
+  bounds-same = bounds-by s' (fieldOf s) field-same numerators-same
 
   -- the longer header breaks no rule
   equal-bound : (i : ℕ) → i < 4 → numeratorBoundOf (boundsOf s) i ≡ cond (ltb i (outputsOf s)) (dfOf s) 0

@@ -7,17 +7,17 @@ use native.Mathlib.Omega.{arith}
 use lib.ListN.{getD}
 use Rattle.lists.proofs.Order.{lt-or-ge}
 use Rattle.lists.proofs.Tabulated.{tabulate-cong}
-use Rattle.field.specs.Primes.{primeOfCode}
 use Rattle.format.specs.declared.Bounds.{Bounds}
 use Rattle.cursor.specs.Bits.{bitOf, fieldOf}
 use Rattle.cursor.proofs.Fields.{first-bit, second-bit, field-of-number}
-use Rattle.header.specs.Header.{outputsOf, dfOf, spareBitOf, numeratorBoundsOf, boundsOf}
+use Rattle.header.specs.Header.{dfOf, spareBitOf, numeratorBoundsOf, boundsOf}
+use Rattle.header.proofs.Fields.{outputs-by, df-by, bounds-by}
 use Rattle.read_u64.specs.Words.{joinedBytes}
 use Rattle.rows.specs.Rows.{numberAt}
 use Rattle.job.specs.Refusals.{outcomeOf}
 use Rattle.problem.specs.Answers.{wrongAt}
 use Rattle.either_header.specs.Unflagged.{plainWrong, Unflagged}
-use Rattle.either_header.specs.ShortHeader.{headerNumber, shortOutputs, shortDf, shortBounds, shortNumber, shortOutcome, ShortHeader}
+use Rattle.either_header.specs.ShortHeader.{headerNumber, shortDf, shortBounds, shortNumber, shortOutcome, ShortHeader}
 use Rattle.either_header.proofs.Unflagged.{unflagged, short-unset}
 
 module _ (s : List ℕ) (low : (k : ℕ) → getD s k 0 < 256) where
@@ -53,29 +53,19 @@ module _ (s : List ℕ) (low : (k : ℕ) → getD s k 0 < 256) where
   field-short : (at bits : ℕ) → at + bits ≤ 24 → fieldOf s at bits ≡ headerNumber s / 2 ^ (24 - (at + bits)) % 2 ^ bits
   field-short at bits inside = field-joined 3 at bits inside ∙ ap (λ (x : ℕ). x / 2 ^ (24 - (at + bits)) % 2 ^ bits) three
 
-  outputs-short : outputsOf s ≡ shortOutputs s
-  unfolding outputsOf
-  outputs-short = ap (λ (x : ℕ). x + 1) (field-short 2 2 (omega arith))
+  known : (at bits : ℕ) → at + bits ≤ 23 → fieldOf s at bits ≡ headerNumber s / 2 ^ (24 - (at + bits)) % 2 ^ bits
+  known at bits inside = field-short at bits (omega arith)
 
   df-short : dfOf s ≡ shortDf s
-  unfolding dfOf
-  df-short = field-short 9 5 (omega arith)
+  df-short = df-by s _ known
 
   module _ (spare : spareBitOf s ≡ 0) where
     numerators-short : numeratorBoundsOf s ≡ shortBounds s .numerators
     unfolding numeratorBoundsOf
-    numerators-short = tabulate-cong 4 _ _ (λ i l. rw (spare, outputs-short, df-short) refl)
+    numerators-short = tabulate-cong 4 _ _ (λ i l. rw (spare, outputs-by s _ known, df-short) refl)
 
     bounds-short : boundsOf s ≡ shortBounds s
-    unfolding boundsOf
-    bounds-short = λ i. record {
-      prime = primeOfCode (field-short 0 2 (omega arith) i);
-      outputs = outputs-short i;
-      rows = field-short 4 5 (omega arith) i;
-      numerators = numerators-short i;
-      dg = field-short 14 5 (omega arith) i;
-      errors = field-short 19 4 (omega arith) i;
-    }
+    bounds-short = bounds-by s _ known numerators-short
 
     numbers-short : numberAt s ≡ shortNumber s
     unfolding numberAt

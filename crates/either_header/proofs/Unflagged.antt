@@ -2,7 +2,7 @@
 use mathlib.Core.Path.{_≡_, refl, ap, _∙_}
 use mathlib.Core.Bool.{Bool, true, false, cond, not, _&&_, _||_}
 use mathlib.Core.List.{List}
-use Prim.Native.Nat.{ℕ, zero, suc, _/_, _%_, _<_}
+use Prim.Native.Nat.{ℕ, _/_, _%_, _<_}
 use native.Mathlib.Omega.{arith}
 use borrow.Author.Tests.{eqb-false}
 use lib.Dec.{ltb, leb, eqb}
@@ -15,19 +15,13 @@ use Rattle.lists.proofs.FirstBelow.{first-cong}
 use Rattle.header.specs.Header.{dfOf, headerLengthOf, spareBitOf, flagsOf, marksAllowed, boundsOf, headerOf, rowsNeededOf}
 use Rattle.header_rules.specs.Rules.{tooShort, boundsAbsent, addedHeaderBroken}
 use Rattle.rows.specs.Rows.{numberAt, jobPoint, jobValue}
-use Rattle.lists.specs.Counting.{oneIf, countBelow}
+use Rattle.lists.proofs.Counting.{count-all}
 use Rattle.marked_rows.specs.declared.Mark.the-variants.{None}
 use Rattle.marked_rows.specs.Marks.{markAt, isUnmarked, speaking, speaks, speakingCount}
 use Rattle.marked_rows.proofs.Marks.{unmarked-if-not-allowed}
 use Rattle.job.specs.Refusals.{byteCountDiffers, tooFewRows, tooFewSpeaking, outOfRange, refuse, outcomeOfRows, outcomeOf}
 use Rattle.problem.proofs.Rows.{unmarked-verdict}
 use Rattle.either_header.specs.Unflagged.{plainRowTests, item5Broken, item5Outcome, Unflagged}
-
--- all numbers below n pass
-count-all : (n : ℕ) (test : ℕ → Bool) → ((r : ℕ) → test r ≡ true) → countBelow n test ≡ n
-unfolding countBelow
-count-all zero test all = refl
-count-all (suc n) test all = let last = ap oneIf (all n) in omega (arith, count-all n test all)
 
 module _ (s : List ℕ) (unset : marksAllowed (flagsOf s) ≡ false) where
   none : (r : ℕ) → markAt s r ≡ None
@@ -48,7 +42,7 @@ module _ (s : List ℕ) (unset : marksAllowed (flagsOf s) ≡ false) where
 
   pub all-speak : speakingCount s ≡ boundsOf s .rows
   unfolding speakingCount
-  all-speak = count-all (boundsOf s .rows) (speaks s) (λ r. ap speaking (none r))
+  all-speak = count-all (boundsOf s .rows) (speaks s) (λ r l. ap speaking (none r))
 
   -- so 12 applies where 4 does
   speaking-same : tooFewSpeaking s ≡ tooFewRows s

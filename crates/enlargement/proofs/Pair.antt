@@ -1,24 +1,29 @@
 -- The pairs of jobs meet the conditions of the enlargement rule.
 use mathlib.Core.Path.{_≡_, refl, sym, subst}
+use mathlib.Core.Bool.{Bool, true, not, _&&_, and-eq-true-iff}
 use mathlib.Core.List.{List, [], _∷_}
 use Prim.Native.Nat.{ℕ, zero, suc, _<_}
 use native.Mathlib.Omega.{arith}
+use borrow.Author.Tests.{ltb-true, not-false}
+use lib.Dec.{ltb}
 use lib.ListN.{getD, length}
 use Rattle.lists.specs.Tabulated.{tabulate}
-use Rattle.lists.proofs.Truth.{clash}
 use Rattle.format.specs.Bounds.{largestBound, numeratorCount}
 use Rattle.format.specs.declared.Outcome.the-variants.{Accepted}
 use Rattle.poly.specs.Operations.{valueOf}
 use Rattle.cursor.specs.Bits.{fieldOf}
 use Rattle.header.specs.Header.{outputsOf, dfOf, spareBitOf, numeratorBoundsOf, flagsOf, boundsOf}
+use Rattle.lists.specs.declared.Found.the-variants.{Nothing}
 use Rattle.lists.specs.Search.{firstBelow}
+use Rattle.lists.proofs.FirstBelow.{none-passes}
 use Rattle.rows.specs.Rows.{numberAt}
 use Rattle.lists.specs.Counting.{countBelow}
-use Rattle.marked_rows.specs.Marks.{markOf, speakingCount}
+use Rattle.marked_rows.specs.Marks.{markOf, speaks, speakingCount}
 use Rattle.job.specs.Refusals.{outcomeOf, outcomeOfRows}
 use Rattle.problem.specs.Rows.{wrongRow}
 use Rattle.problem.specs.Answers.{wrongCount}
-use Rattle.enlargement.specs.Enlargement.{Meets, rowBytes, HoldsRows, HoldsSpeaking, sameBytes, furtherWrong, Comparable}
+use Rattle.enlargement.specs.Enlargement.{Meets, rowBytes, StandsAt, HoldsRows, HoldsSpeaking, sameBytes, furtherWrong, Comparable}
+use Rattle.enlargement.proofs.RowBytes.{bytes-equal}
 use Rattle.enlargement.specs.Pair.{smallerJob, largerJob, pairNumerators, pairDenominator, silentJob, markedJob, poleJob, poleLargerJob, poleNumerators, poleDenominator}
 
 -- a constant has no coefficient above its first
@@ -65,36 +70,22 @@ unfolding outcomeOf outcomeOfRows tabulate largestBound numeratorCount fieldOf o
     speakingCount countBelow
 jobs-well-formed = (refl, refl, refl, refl, refl, refl)
 
-rows-held : HoldsRows smallerJob largerJob
-unfolding fieldOf outputsOf spareBitOf boundsOf rowBytes
-rows-held zero l = (2, omega arith, refl)
-rows-held (suc zero) l = (3, omega arith, refl)
-rows-held (suc (suc zero)) l = (0, omega arith, refl)
-rows-held (suc (suc (suc i))) l = absurd (omega arith)
+-- T' holds the rows of T that pass, at the given places, where a search finds no other
+held : (s s' : List ℕ) (pass : ℕ → Bool) (places : List ℕ)
+    → firstBelow (boundsOf s .rows) (λ i. pass i && not (ltb (getD places i 0) (boundsOf s' .rows) && sameBytes (rowBytes s' (getD places i 0)) (rowBytes s i))) ≡ Nothing
+    → (i : ℕ) → i < boundsOf s .rows → pass i ≡ true → (j : ℕ) × (j < boundsOf s' .rows) × StandsAt s i s' j
+held s s' pass places e i l p =
+    let there = and-eq-true-iff _ _ .0 (not-false _ (rw p at (none-passes _ _ e i l))) in
+    (getD places i 0, ltb-true _ _ (there .0), bytes-equal _ _ (there .1))
 
-silent-held : HoldsSpeaking silentJob largerJob
-unfolding fieldOf outputsOf spareBitOf flagsOf boundsOf rowBytes firstBelow numberAt markOf
-silent-held zero l e = (2, omega arith, refl)
-silent-held (suc zero) l e = clash (sym e)
-silent-held (suc (suc zero)) l e = (3, omega arith, refl)
-silent-held (suc (suc (suc zero))) l e = (0, omega arith, refl)
-silent-held (suc (suc (suc (suc i)))) l e = absurd (omega arith)
-
-marked-held : HoldsRows smallerJob markedJob
-unfolding fieldOf outputsOf spareBitOf boundsOf rowBytes
-marked-held zero l = (2, omega arith, refl)
-marked-held (suc zero) l = (4, omega arith, refl)
-marked-held (suc (suc zero)) l = (1, omega arith, refl)
-marked-held (suc (suc (suc i))) l = absurd (omega arith)
-
-pole-held : HoldsSpeaking poleJob poleLargerJob
-unfolding fieldOf outputsOf spareBitOf flagsOf boundsOf rowBytes firstBelow numberAt markOf
-pole-held zero l e = (2, omega arith, refl)
-pole-held (suc zero) l e = clash (sym e)
-pole-held (suc (suc zero)) l e = (4, omega arith, refl)
-pole-held (suc (suc (suc zero))) l e = (6, omega arith, refl)
-pole-held (suc (suc (suc (suc zero)))) l e = (0, omega arith, refl)
-pole-held (suc (suc (suc (suc (suc i))))) l e = absurd (omega arith)
+pairs-held : HoldsRows smallerJob largerJob × HoldsSpeaking silentJob largerJob × HoldsRows smallerJob markedJob × HoldsSpeaking poleJob poleLargerJob
+unfolding fieldOf outputsOf spareBitOf flagsOf boundsOf rowBytes sameBytes firstBelow numberAt markOf
+pairs-held = (
+  λ i l. held smallerJob largerJob (λ i. true) (2 ∷ 3 ∷ 0 ∷ []) refl i l refl,
+  held silentJob largerJob (speaks silentJob) (2 ∷ 0 ∷ 3 ∷ 0 ∷ []) refl,
+  λ i l. held smallerJob markedJob (λ i. true) (2 ∷ 4 ∷ 1 ∷ []) refl i l refl,
+  held poleJob poleLargerJob (speaks poleJob) (2 ∷ 0 ∷ 4 ∷ 6 ∷ 0 ∷ []) refl,
+)
 
 constants-meet : (s : List ℕ) → Meets s pairNumerators pairDenominator
 constants-meet s = record { denominator = λ k l. constant 1 k (omega arith); numerators = λ i k li l. constant _ k (omega arith) }
@@ -105,16 +96,16 @@ pole-meets = record { denominator = λ k l. linear 0 1 k l; numerators = λ i k 
 
 -- the conditions
 pub pair-comparable : (area' : List ℕ) → length area' ≡ 12 → Comparable HoldsRows smallerJob largerJob area' pairNumerators pairDenominator
-pair-comparable = comparable smallerJob largerJob (pairs-alike .0) (jobs-well-formed .1) rows-held (constants-meet largerJob)
+pair-comparable = comparable smallerJob largerJob (pairs-alike .0) (jobs-well-formed .1) (pairs-held .0) (constants-meet largerJob)
 
 pub silent-comparable : (area' : List ℕ) → length area' ≡ 12 → Comparable HoldsSpeaking silentJob largerJob area' pairNumerators pairDenominator
-silent-comparable = comparable silentJob largerJob (pairs-alike .1) (jobs-well-formed .1) silent-held (constants-meet largerJob)
+silent-comparable = comparable silentJob largerJob (pairs-alike .1) (jobs-well-formed .1) (pairs-held .1) (constants-meet largerJob)
 
 pub marked-comparable : (area' : List ℕ) → length area' ≡ 10 → Comparable HoldsRows smallerJob markedJob area' pairNumerators pairDenominator
-marked-comparable = comparable smallerJob markedJob (pairs-alike .2) (jobs-well-formed .3) marked-held (constants-meet markedJob)
+marked-comparable = comparable smallerJob markedJob (pairs-alike .2) (jobs-well-formed .3) (pairs-held .2) (constants-meet markedJob)
 
 pub pole-comparable : (area' : List ℕ) → length area' ≡ 12 → Comparable HoldsSpeaking poleJob poleLargerJob area' poleNumerators poleDenominator
-pole-comparable = comparable poleJob poleLargerJob (pairs-alike .3) (jobs-well-formed .5) pole-held pole-meets
+pole-comparable = comparable poleJob poleLargerJob (pairs-alike .3) (jobs-well-formed .5) (pairs-held .3) pole-meets
 
 -- of the pairs with marks, one row of T and one further row of T' is wrong
 abbrev pub OneEach : (s s' : List ℕ) (f : ℕ → List ℕ) (g : List ℕ) → Type 0

@@ -1,1 +1,2 @@
 pub mod RangeTests
+pub mod Passes

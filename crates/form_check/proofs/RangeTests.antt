@@ -8,7 +8,7 @@ use borrow.Author.Tests.{leb-false, lt-leb, lt-ltb, le-ltb}
 use lib.Dec.{leb}
 use lib.ListN.{getD}
 use Rattle.field.specs.Primes.{modulusOf}
-use Rattle.field.proofs.Moduli.{modulus-prime, modulus-small, modulus-positive}
+use Rattle.field.proofs.Moduli.{modulus-prime, modulus-positive}
 use Rattle.header.specs.Header.{flagsOf, marksAllowed, boundsOf}
 use Rattle.header.proofs.Fields.{fits-fields}
 use Rattle.job.specs.Refusals.{outOfRange}
@@ -16,21 +16,20 @@ use Rattle.job.proofs.ArrayTests.{values-in-table}
 use Rattle.lists.proofs.Counting.{count-all}
 use Rattle.lists.proofs.Truth.{or-false}
 use Rattle.lists.proofs.Tabulated.{at-tabulate}
-use Rattle.lists.specs.declared.Found.{Found}
 use Rattle.lists.specs.declared.Found.the-variants.{Nothing}
 use Rattle.lists.specs.Search.{ifHolds, orElse, firstBelow, anyBelow, isFound}
-use Rattle.lists.proofs.FirstBelow.{none-passes, any-passes, first-cong, first-shorter}
+use Rattle.lists.proofs.FirstBelow.{any-passes, first-cong, first-shorter}
 use Rattle.rows.specs.declared.Row.{Row}
 use Rattle.rows.specs.Rows.{jobPoint, jobValue, valueOrZero}
 use Rattle.rows.specs.Steps.{rowAt}
-use Rattle.marked_rows.specs.declared.Mark.{Mark}
 use Rattle.marked_rows.specs.declared.Mark.the-variants.{None}
 use Rattle.marked_rows.specs.declared.RowConditions.{RowConditions}
-use Rattle.marked_rows.specs.Marks.{markAt, isUnmarked, speaking, speaks, speakingCount}
+use Rattle.marked_rows.specs.Marks.{markOf, markAt, isUnmarked, speaking, speaks, speakingCount}
 use Rattle.marked_rows.specs.Table.{conditionsBy}
 use Rattle.marked_rows.proofs.Marks.{unmarked-if-not-allowed, unmarked-if-small}
 use Rattle.marked_rows.proofs.Entries.{conditions-point, conditions-value}
-use Rattle.form_check.specs.Steps.{numberTooLarge}
+use Rattle.form_check.specs.declared.RowForm.{RowForm}
+use Rattle.form_check.specs.Steps.{rowFormOf}
 
 -- four tests after another one, in a row
 any-of : (a b c d e : Bool)
@@ -71,13 +70,7 @@ module _ (s : List ℕ) (r : ℕ) where
   values =
       ap isFound (first-shorter (λ i. leb p (getD (rowAt s r .values) i 0)) 4 n (fits-fields s .outputs-most) no-value ∙ first-cong n _ _ value)
 
-  -- a row as it is read
-  pub row-test : {q : ℕ} {row : Row} → q ≡ p → row ≡ rowAt s r → (leb q (row .point) || anyBelow 4 (λ i. leb q (getD (row .values) i 0))) ≡ numberTooLarge s r
-  row-test modulus read =
-      ap₂ (λ q (x : Row). leb q (x .point) || anyBelow 4 (λ i. leb q (getD (x .values) i 0))) modulus read
-      ∙ ap₂ _||_ (ap (leb p) (row-point s r)) values
-
-  -- and by its mark
+  -- a row by its mark
   pub settled-test : {q : ℕ} {row : RowConditions} → q ≡ p → row ≡ conditionsBy (markAt s r) (rowAt s r)
       → (leb q (row .point) || anyBelow 4 (λ i. leb q (getD (row .values) i 0))) ≡ outOfRange s r
   settled-test modulus settled =
@@ -88,31 +81,25 @@ module _ (s : List ℕ) (r : ℕ) where
       ∙ values-in-table m p 4 (λ i. getD (rowAt s r .values) i 0) (modulus-prime (boundsOf s .prime) .two)
       ∙ ap (λ b. isUnmarked m && b) values)
 
-  -- the two tests of an unmarked row are the same
-  same-test : markAt s r ≡ None → numberTooLarge s r ≡ outOfRange s r
-  same-test unmarked = ap (λ (m : Mark). leb p (jobPoint s r) || (isUnmarked m && anyBelow n (λ i. leb p (jobValue s r i)))) (sym unmarked)
+-- where marks are not allowed
+module _ (s : List ℕ) (without : marksAllowed (flagsOf s) ≡ false) where
+  unmarked : (r : ℕ) → markAt s r ≡ None
+  unmarked r = unmarked-if-not-allowed _ _ (jobValue s r) without
 
-  -- and a row of numbers below p is one
-  unmarked-below : numberTooLarge s r ≡ false → markAt s r ≡ None
-  unmarked-below e =
-      let some = fits-fields s .outputs-least in
-      let below = leb-false p (jobValue s r 0) (any-passes (λ i. leb p (jobValue s r i)) n (or-false (leb p (jobPoint s r)) _ e .1) 0 (omega arith)) in
-      let small = modulus-small (boundsOf s .prime) in
-      unmarked-if-small _ n (jobValue s r) 0 (omega arith) (omega arith)
+  -- a row as it is read
+  pub row-test : (r : ℕ) {q : ℕ} {row : Row} → q ≡ modulusOf (boundsOf s .prime) → row ≡ rowAt s r
+      → (leb q (row .point) || anyBelow 4 (λ i. leb q (getD (row .values) i 0))) ≡ outOfRange s r
+  row-test r {row = row} modulus read = settled-test s r {row = conditionsBy None row} modulus (ap₂ conditionsBy (sym (unmarked r)) read)
 
-module _ (s : List ℕ) where
-  -- so no row is marked where all numbers are below p
-  none-marked : firstBelow (boundsOf s .rows) (numberTooLarge s) ≡ Nothing → (r : ℕ) → r < boundsOf s .rows → markAt s r ≡ None
-  none-marked e r l = unmarked-below s r (none-passes (numberTooLarge s) (boundsOf s .rows) e r l)
-
-  pub scanned-below : {f : Found} → f ≡ firstBelow (boundsOf s .rows) (numberTooLarge s) → f ≡ Nothing → f ≡ firstBelow (boundsOf s .rows) (outOfRange s)
-  scanned-below e none = e ∙ first-cong (boundsOf s .rows) _ _ (λ r l. same-test s r (none-marked (sym e ∙ none) r l))
-
-  pub all-speak : firstBelow (boundsOf s .rows) (numberTooLarge s) ≡ Nothing → boundsOf s .rows ≡ speakingCount s
+  pub all-speak : boundsOf s .rows ≡ speakingCount s
   unfolding speakingCount
-  all-speak e = sym (count-all (boundsOf s .rows) (speaks s) (λ r l. ap speaking (none-marked e r l)))
+  all-speak = sym (count-all (boundsOf s .rows) (speaks s) (λ r l. ap speaking (unmarked r)))
 
-  -- and none is where marks are not allowed
-  pub scanned-without : {f : Found} → f ≡ firstBelow (boundsOf s .rows) (numberTooLarge s) → marksAllowed (flagsOf s) ≡ false
-      → f ≡ firstBelow (boundsOf s .rows) (outOfRange s)
-  scanned-without e without = e ∙ first-cong (boundsOf s .rows) _ _ (λ r l. same-test s r (unmarked-if-not-allowed _ _ (jobValue s r) without))
+-- A row whose numbers are all below p has no mark, since both marks are above p: so what its numbers say is what it says by its mark.
+pub unmarked-form : (row : Row) (n : ℕ) (marks : Bool) (p : ℕ) → 1 ≤ n → p < 65534 → (leb p (row .point) || anyBelow 4 (λ i. leb p (getD (row .values) i 0))) ≡ false
+    → _≡_ {A = RowForm} (record { refused = false; speaking = 1 }) (rowFormOf p (conditionsBy (markOf marks n (λ i. getD (row .values) i 0)) row))
+unmarked-form row n marks p some low e =
+    let y : ℕ → ℕ = λ i. getD (row .values) i 0 in
+    let below : y 0 < p = leb-false p (y 0) (any-passes (λ i. leb p (y i)) 4 (or-false (leb p (row .point)) _ e .1) 0 (omega arith)) in
+    let none : markOf marks n y ≡ None = unmarked-if-small marks n y 0 (omega arith) (omega arith) in
+    rw (none, e) refl

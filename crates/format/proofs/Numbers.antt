@@ -1,4 +1,4 @@
--- The refusals' numbers: 1 to 11, one for each reason.
+-- The refusals' numbers: 1 to 12, one for each reason.
 use mathlib.Core.Path.{_≡_, refl, ap, _∙_, sym}
 use mathlib.Core.List.{[], _∷_}
 use Prim.Native.Nat.{ℕ, _<_}

@@ -24,7 +24,7 @@ unfoldable pub numeratorCount : Bounds → ℕ → ℕ
 numeratorCount b zero = 0
 numeratorCount b (suc i) = numeratorCount b i + (numeratorBoundOf b i + 1)
 
--- the bytes of the recovered sheet: a word, the dg + 1 coefficients of g and those of all outputs, 16 bits each
+-- the bytes of an answer, paper 01's "recovered sheet": a word, the dg + 1 coefficients of g and those of all outputs, 16 bits each
 abbrev pub answerLengthOf : Bounds → ℕ
 answerLengthOf b = 4 + 2 * ((b .dg + 1) + numeratorCount b (b .outputs))
 

@@ -78,7 +78,8 @@ pub enum Reason {
     TooFewSpeaking,
 }
 
-// What a call answers. Accepted is the reader's answer to a well-formed job; recovery never gives it.
+// What a call answers. Accepted is for use between the crates: the reader's answer to a well-formed job, the solver's where there is an answer.
+// Recovery never gives it.
 pub enum Outcome {
     Accepted,
     Recovered { bytes: u32, wrong: u32 },

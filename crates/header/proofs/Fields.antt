@@ -1,12 +1,13 @@
--- Bounds on what a header can say.
+-- Bounds on what a header can say, and what it says where its fields are known.
 use Prim.Native.Nat.{ℕ, _+_, _*_, _≤_, _<_}
 use mathlib.Core.Bool.{Bool, true, false, cond}
 use mathlib.Core.List.{List}
-use mathlib.Core.Path.{_≡_}
+use mathlib.Core.Path.{_≡_, refl, ap}
 use native.Mathlib.Nat.{mul-le-mul}
 use native.Mathlib.Omega.{arith}
 use Rattle.lists.proofs.Tabulated.{at-tabulate, at-tabulate-past}
 use lib.Dec.{ltb, eqb}
+use Rattle.field.specs.Primes.{primeOfCode}
 use Rattle.format.specs.declared.Bounds.{Bounds}
 use Rattle.format.specs.Bounds.{numeratorBoundOf, FitsPolynomials}
 use Rattle.cursor.specs.Bits.{fieldOf}
@@ -26,6 +27,21 @@ fits-fields s = record {
 pub fits-header : (s : List ℕ) → FitsHeader (headerOf s)
 unfolding dfOf spareBitOf
 fits-header s = record { bounds = fits-fields s; df-most = omega (arith, field-below s 9 5); length-most = omega (arith, field-below s 23 1) }
+
+-- where the fields before the spare bit are known, so is what the header fixes
+module _ (s : List ℕ) (field : ℕ → ℕ → ℕ) (known : (at bits : ℕ) → at + bits ≤ 23 → fieldOf s at bits ≡ field at bits) where
+  pub outputs-by : outputsOf s ≡ field 2 2 + 1
+  unfolding outputsOf
+  outputs-by = ap (λ n. n + 1) (known 2 2 (omega arith))
+
+  pub df-by : dfOf s ≡ field 9 5
+  unfolding dfOf
+  df-by = known 9 5 (omega arith)
+
+  pub bounds-by : {numerators : List ℕ} → numeratorBoundsOf s ≡ numerators
+      → boundsOf s ≡ record { prime = primeOfCode (field 0 2); outputs = field 2 2 + 1; rows = field 4 5; numerators = numerators; dg = field 14 5; errors = field 19 4 }
+  unfolding boundsOf
+  bounds-by e = rw (known 0 2 (omega arith), outputs-by, known 4 5 (omega arith), e, known 14 5 (omega arith), known 19 4 (omega arith)) refl
 
 -- the bound of each output, by the spare bit
 pub bound-at : (s : List ℕ) (i : ℕ) → i < 4

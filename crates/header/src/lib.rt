@@ -5,7 +5,7 @@ ghost use mathlib.Core.Path.{_≡_};
 ghost use lib.Dec.{ltb, eqb};
 ghost use Rattle.lists.specs.Tabulated.{tabulate};
 ghost use Rattle.cursor.specs.Bits.{fieldOf};
-ghost use Rattle.header.specs.Header.{headerOf, jobLengthOf, rowsNeededOf, FitsHeader};
+ghost use Rattle.header.specs.Header.{marksAllowed, headerOf, jobLengthOf, rowsNeededOf, FitsHeader};
 use cursor::Cursor;
 use cursor::Field;
 use format::Bounds;
@@ -16,6 +16,15 @@ pub struct Header {
     pub df: usize,
     pub flags: u32,
     pub length: usize,
+}
+
+impl Header {
+    // Whether rows may carry marks: the first of the twelve flags.
+    pub fn marks_allowed(self) -> bool
+        ensures { λ r. ⌜ r ≡ marksAllowed (self .flags) ⌝ }
+    {
+        self.flags / 2048 == 1
+    }
 }
 
 // What the longer header adds, or what stands for it: the degree bounds of f1 to f4, and the flags.

@@ -6,10 +6,9 @@ ghost use mathlib.Core.Path.{_≡_};
 ghost use lib.ListN.{getD, length};
 ghost use Rattle.field.specs.Primes.{modulusOf};
 ghost use Rattle.poly.specs.Coefficients.{Stored};
-ghost use Rattle.poly.specs.Vectors.{onePoly, zeroPoly};
-ghost use Rattle.pairs.specs.Pairs.{PairBounded, Conditions, pairsAfter, solutionOf};
+ghost use Rattle.pairs.specs.Pairs.{PairBounded, Conditions, solutionOf};
 ghost use Rattle.evaluation.specs.Values.{formsOf};
-ghost use Rattle.pairs.specs.Held.{PairHeld, pairOf, pairsOf};
+ghost use Rattle.pairs.specs.Held.{pairOf};
 ghost use Rattle.interpolation.specs.Start.{statesAtStart, stepRow};
 use evaluation::PerRow;
 use field::Prime;
@@ -85,44 +84,6 @@ fn row(q: Prime, v: u16, points: &[u32; 32], xs: &[u16; 32], rows: usize, k: usi
     }
 }
 
-// Both pairs after all rows, from (1, 0) and (0, 1).
-fn after_rows(
-    q: Prime,
-    points: &[u32; 32],
-    xs: &[u16; 32],
-    weights: &[u16; 32],
-    z: &[u32; 32],
-    rows: usize,
-    start: PairStates,
-    a0: &mut [u16; 32],
-    b0: &mut [u16; 32],
-    a1: &mut [u16; 32],
-    b1: &mut [u16; 32],
-) -> PairStates
-    requires { ⌜ Conditions (modulusOf q) (now points) (now weights) (now z) rows (start .second .e) (start .first .e) × (now xs ≡ formsOf (modulusOf q) (now points) rows)
-        × (start .first .n ≡ 1) × (start .second .n ≡ 1)
-        × (now a0 ≡ onePoly .c) × (now b0 ≡ zeroPoly .c) × (now a1 ≡ zeroPoly .c) × (now b1 ≡ onePoly .c) ⌝ }
-    ensures { λ s. ⌜
-        (pairsOf (pairOf (now (a0 .exit)) (now (b0 .exit)) (s .first .e)) (pairOf (now (a1 .exit)) (now (b1 .exit)) (s .second .e))
-        ≡ pairsAfter (modulusOf q) (now (points .entry)) (now (weights .entry)) (now (z .entry)) (start .second .e) (start .first .e) rows)
-        × PairHeld (modulusOf q) (rows + 1) (now (a0 .exit)) (now (b0 .exit)) × PairHeld (modulusOf q) (rows + 1) (now (a1 .exit)) (now (b1 .exit)) ⌝ }
-{
-    let p = field::modulus(q) as u16;
-    let ps = [p; 32];
-    let v = montgomery::inverse(q);
-    let vs = [v; 32];
-    let copy = copied(weights);
-    let mut d0 = copy.v;
-    let negated = negations(p, z, rows);
-    let mut d1 = negated.v;
-    let mut s = start;
-    for k in 0..rows {
-        let here = row(q, v, points, xs, rows, k);
-        s = step(&ps, &vs, here, xs, s, a0, b0, &mut d0, a1, b1, &mut d1);
-    }
-    s
-}
-
 fn widened(a: &[u16; 32]) -> Poly
     requires { ⌜ (length (now a) ≡ 32) × ((k : ℕ) → getD (now a) k 0 < 65536) ⌝ }
     ensures { λ r. ⌜ r .c ≡ now (a .entry) ⌝ }
@@ -145,7 +106,7 @@ fn paired(a: &[u16; 32], b: &[u16; 32], e: usize) -> Pair
     }
 }
 
-// The pair with the smaller number. Beside the points stand their forms, which all outputs share, and the rows' weights.
+// The pair with the smaller number after all rows, from (1, 0) and (0, 1). Beside the points stand their forms, which all outputs share, and the rows' weights.
 pub fn solution(
     q: Prime,
     points: &[u32; 32],
@@ -160,25 +121,37 @@ pub fn solution(
     ensures { λ r. ⌜ (r ≡ solutionOf (modulusOf q) (now (points .entry)) (now (weights .entry)) (now (z .entry)) «bound_a» «bound_b» rows)
         × PairBounded (modulusOf q) (rows + 1) r ⌝ }
 {
+    let p = field::modulus(q) as u16;
+    let ps = [p; 32];
+    let v = montgomery::inverse(q);
+    let vs = [v; 32];
+    let copy = copied(weights);
+    let mut d0 = copy.v;
+    let negated = negations(p, z, rows);
+    let mut d1 = negated.v;
     let mut a0 = [0u16; 32];
     let mut b0 = [0u16; 32];
     let mut a1 = [0u16; 32];
     let mut b1 = [0u16; 32];
     a0[0] = 1;
     b1[0] = 1;
-    let s = after_rows(
-        q,
-        points,
-        xs,
-        weights,
-        z,
-        rows,
-        started(bound_b, bound_a),
-        &mut a0,
-        &mut b0,
-        &mut a1,
-        &mut b1,
-    );
+    let mut s = started(bound_b, bound_a);
+    for k in 0..rows {
+        let here = row(q, v, points, xs, rows, k);
+        s = step(
+            &ps,
+            &vs,
+            here,
+            xs,
+            s,
+            &mut a0,
+            &mut b0,
+            &mut d0,
+            &mut a1,
+            &mut b1,
+            &mut d1,
+        );
+    }
     let e0 = s.first.e;
     let e1 = s.second.e;
     if e0 <= e1 {

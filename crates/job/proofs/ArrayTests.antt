@@ -1,7 +1,7 @@
--- Tests 5 and 6 on the arrays are those on the bytes.
+-- Tests 5, 12 and 6 on the arrays are those on the bytes.
 use mathlib.Core.Bool.{Bool, false, _&&_, _||_}
 use mathlib.Core.List.{List}
-use mathlib.Core.Path.{_≡_, refl, ap, ap₂, _∙_}
+use mathlib.Core.Path.{_≡_, refl, sym, ap, ap₂, _∙_}
 use Prim.Native.Nat.{ℕ, _+_, _*_, _≤_, _<_}
 use native.Mathlib.Omega.{arith}
 use lib.Dec.{leb, eqb}
@@ -10,14 +10,19 @@ use borrow.Author.Tests.{lt-leb}
 use Rattle.field.specs.Primes.{modulusOf}
 use Rattle.field.proofs.Moduli.{modulus-prime}
 use Rattle.format.specs.declared.Bounds.{Bounds}
+use Rattle.format.specs.declared.Outcome.{Outcome}
+use Rattle.format.specs.declared.Outcome.the-variants.{Accepted}
 use Rattle.lists.specs.declared.Found.{Found}
-use Rattle.header.specs.Header.{boundsOf}
+use Rattle.lists.specs.declared.Found.the-variants.{At, Nothing}
+use Rattle.header.specs.Header.{boundsOf, headerOf, rowsNeededOf}
 use Rattle.rows.specs.Rows.{jobPoint, jobValue}
 use Rattle.marked_rows.specs.declared.Mark.{Mark}
 use Rattle.marked_rows.specs.declared.Mark.the-variants.{None, Pole, Silent}
-use Rattle.marked_rows.specs.Marks.{markAt, isUnmarked}
+use Rattle.marked_rows.specs.Marks.{markAt, isUnmarked, speakingCount}
 use Rattle.marked_rows.specs.Table.{rightSideOf, jobPoints, jobValues}
-use Rattle.job.specs.Refusals.{outOfRange, repeatedPoint}
+use Rattle.job.specs.Refusals.{outOfRange, repeatedPoint, rowTests}
+use Rattle.job.specs.Form.{tableOutcomeOf}
+use Rattle.job.proofs.Deciding.{at-5}
 use Rattle.lists.specs.Search.{firstBelow, anyBelow, isFound}
 use Rattle.lists.proofs.FirstBelow.{first-cong, none-below}
 use Rattle.marked_rows.proofs.Entries.{points-at, values-at}
@@ -41,19 +46,21 @@ module _ (s : List ℕ) where
       (ap isFound (first-cong (boundsOf s .outputs) _ _ (λ i m. ap (leb p) (values-at s r i l m)))
       ∙ values-in-table (markAt s r) p (boundsOf s .outputs) (jobValue s r) (modulus-prime (boundsOf s .prime) .two))
 
+  -- the same with what the code has at hand
+  pub first-out-of-range : {b : Bounds} {points values : List ℕ} {p : ℕ} {f : Found} → b ≡ boundsOf s → points ≡ jobPoints s → values ≡ jobValues s → p ≡ modulusOf (b .prime)
+      → f ≡ firstBelow (b .rows) (λ r. leb p (getD points r 0) || anyBelow (b .outputs) (λ i. leb p (getD values (r * 4 + i) 0)))
+      → f ≡ firstBelow (boundsOf s .rows) (outOfRange s)
+  first-out-of-range bounds rows v e h = h ∙ simp (e, bounds, rows, v) out-of-range-same
+
   -- whatever stands behind the rows' points
-  pub repeated-same : (points : List ℕ) → ((r : ℕ) → r < boundsOf s .rows → getD points r 0 ≡ jobPoint s r)
+  repeated-same : (points : List ℕ) → ((r : ℕ) → r < boundsOf s .rows → getD points r 0 ≡ jobPoint s r)
       → firstBelow (boundsOf s .rows) (λ r. anyBelow r (λ q. eqb (getD points q 0) (getD points r 0))) ≡ firstBelow (boundsOf s .rows) (repeatedPoint s)
   repeated-same points same =
       first-cong (boundsOf s .rows) _ _ λ r l. ap isFound (first-cong r _ _ (λ q m. ap₂ eqb (same q (omega arith)) (same r l)))
 
-  module _ {b : Bounds} {points : List ℕ} (bounds : b ≡ boundsOf s) (rows : points ≡ jobPoints s) where
-    -- the same with what the code has at hand
-    pub first-out-of-range : {values : List ℕ} {p : ℕ} {f : Found} → values ≡ jobValues s → p ≡ modulusOf (b .prime)
-        → f ≡ firstBelow (b .rows) (λ r. leb p (getD points r 0) || anyBelow (b .outputs) (λ i. leb p (getD values (r * 4 + i) 0)))
-        → f ≡ firstBelow (boundsOf s .rows) (outOfRange s)
-    first-out-of-range v e h = h ∙ simp (e, bounds, rows, v) out-of-range-same
-
-    pub first-repeated : {f : Found} → f ≡ firstBelow (b .rows) (λ r. anyBelow r (λ q. eqb (getD points q 0) (getD points r 0)))
-        → f ≡ firstBelow (boundsOf s .rows) (repeatedPoint s)
-    first-repeated h = h ∙ simp (bounds, rows) (repeated-same (jobPoints s) (points-at s))
+  -- what a pass over the rows found decides as the bytes do; where test 5 refuses a row, nothing else counts
+  pub table-outcome : {rows needed : ℕ} {o : Outcome} (found : Found) {speaking : ℕ} (points : List ℕ) → rows ≡ boundsOf s .rows → needed ≡ rowsNeededOf (headerOf s)
+      → found ≡ firstBelow (boundsOf s .rows) (outOfRange s) → (found ≡ Nothing → speaking ≡ speakingCount s) → (found ≡ Nothing → (r : ℕ) → r < boundsOf s .rows → getD points r 0 ≡ jobPoint s r)
+      → o ≡ tableOutcomeOf rows needed found speaking points → o ≡ rowTests s Accepted
+  table-outcome (At row) points rows needed range count same e = e ∙ sym (at-5 s Accepted (sym range))
+  table-outcome Nothing points rows needed range count same e = e ∙ rw (rows, needed, count refl, repeated-same points (same refl), ← range) refl

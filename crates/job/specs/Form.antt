@@ -3,10 +3,12 @@ use Prim.Native.Nat.{ℕ}
 use mathlib.Core.Bool.{cond, not}
 use mathlib.Core.List.{List}
 use lib.Dec.{ltb, eqb}
-use Rattle.format.specs.declared.Reason.the-variants.{TooShort, AddedHeader, ByteCount, TooFewRows}
+use lib.ListN.{getD}
+use Rattle.format.specs.declared.Reason.the-variants.{TooShort, AddedHeader, ByteCount, TooFewRows, OutOfRange, TooFewSpeaking, RepeatedPoint}
 use Rattle.format.specs.declared.Outcome.{Outcome}
 use Rattle.format.specs.declared.Outcome.the-variants.{Accepted, Refused}
-use Rattle.lists.specs.Search.{ifHolds}
+use Rattle.lists.specs.declared.Found.{Found}
+use Rattle.lists.specs.Search.{ifHolds, firstBelow, anyBelow}
 use Rattle.header.specs.declared.Header.{Header}
 use Rattle.header.specs.Header.{jobLengthOf, rowsNeededOf}
 use Rattle.header_rules.specs.Rules.{tooShort, addedHeaderBroken, rulesThen}
@@ -28,3 +30,11 @@ abbrev pub headerOutcomeOf : (bytes : ℕ) → Header → Outcome
 headerOutcomeOf bytes h =
     rulesThen bytes h
     (cond (not (eqb bytes (jobLengthOf h))) (Refused ByteCount 0) (cond (ltb (h .bounds .rows) (rowsNeededOf h)) (Refused TooFewRows 0) Accepted))
+
+-- the first of tests 5, 12 and 6 that applies, by what a pass over the rows found: a row that 5 refuses or nothing, how many rows speak, of which so
+-- many are needed, and the rows' points
+abbrev pub tableOutcomeOf : (rows needed : ℕ) (found : Found) (speaking : ℕ) (points : List ℕ) → Outcome
+tableOutcomeOf rows needed found speaking points =
+    refuse OutOfRange found
+    (refuse TooFewSpeaking (ifHolds (ltb speaking needed) 0)
+    (refuse RepeatedPoint (firstBelow rows (λ r. anyBelow r (λ q. eqb (getD points q 0) (getD points r 0)))) Accepted))

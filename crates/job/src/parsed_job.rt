@@ -1,15 +1,11 @@
 // A job as a whole.
-ghost use mathlib.Core.List.{List};
 ghost use mathlib.Core.Path.{_≡_};
-ghost use Prim.Native.Nat.{ℕ};
 ghost use lib.ListN.{length};
-ghost use Rattle.format.specs.declared.Outcome.the-variants.{Accepted};
 ghost use Rattle.header.specs.Header.{headerOf, jobLengthOf, FitsHeader};
-ghost use Rattle.marked_rows.specs.Marks.{speakingCount};
-ghost use Rattle.marked_rows.specs.Table.{jobPoints, jobValues};
-ghost use Rattle.job.specs.Refusals.{rowTests, outcomeOfRows};
+ghost use Rattle.job.specs.Refusals.{outcomeOfRows};
 ghost use Rattle.job.specs.ParsedJob.{refusedJob, parsedWith, parsedJobOf};
 use crate::header_check::check_header;
+use crate::table_check::check_table;
 use field::Prime;
 use format::Bounds;
 use format::Outcome;
@@ -17,10 +13,8 @@ use format::Reason;
 use header::Header;
 use header::read_header;
 use header::rows_needed;
-use lists::Found;
 use marked_rows::read_table;
 use row_search::first_out_of_range;
-use row_search::first_repeated;
 
 // The outcome, and where it is Accepted the header's fields, the rows by their conditions, and how many of them speak: row r's point and weight stand
 // at r, its value for output i at 4 r + i.
@@ -63,47 +57,21 @@ fn refused(reason: Reason, row: u32) -> ParsedJob
     }
 }
 
-// Tests 5, 12 and 6, where the earlier ones do not apply.
-fn check_table(header: Header, points: &[u32; 32], values: &[u32; 128], speaking: usize) -> Outcome
-    requires { ⌜ FitsHeader header ⌝ }
-    ensures { λ r. ⌜ ((s : List ℕ) → header ≡ headerOf s → now (points .entry) ≡ jobPoints s → now (values .entry) ≡ jobValues s → speaking ≡ speakingCount s → r ≡ rowTests s Accepted) ⌝ }
-{
-    let bounds = header.bounds;
-    let count = bounds.rows;
-    let prime = bounds.prime;
-    let p = field::modulus(prime);
-    if let Found::At(row) = first_out_of_range(points, values, count, bounds.outputs, p) {
-        return Outcome::Refused {
-            reason: Reason::OutOfRange,
-            row: row,
-        };
-    }
-    if speaking < rows_needed(header) {
-        return Outcome::Refused {
-            reason: Reason::TooFewSpeaking,
-            row: 0,
-        };
-    }
-    if let Found::At(row) = first_repeated(points, count) {
-        return Outcome::Refused {
-            reason: Reason::RepeatedPoint,
-            row: row,
-        };
-    }
-    Outcome::Accepted
-}
-
 // Tests 5, 12, 6 and 7, where the earlier ones do not apply.
 fn read_body(job: &[u8], header: Header, area: usize) -> ParsedJob
     requires { ⌜ (header ≡ headerOf (now job)) × FitsHeader header × (length (now job) ≡ jobLengthOf header) ⌝ }
     ensures { λ r. ⌜ r ≡ parsedWith (outcomeOfRows (now (job .entry)) area) (now (job .entry)) ⌝ }
 {
     let bounds = header.bounds;
-    let marks = header.flags / 2048 == 1;
+    let marks = header.marks_allowed();
     let table = read_table(job, header.length, bounds.rows, bounds.outputs, marks);
     let points = table.points;
     let values = table.values;
-    let checked = check_table(header, &points, &values, table.speaking);
+    let prime = bounds.prime;
+    let p = field::modulus(prime);
+    let found = first_out_of_range(&points, &values, bounds.rows, bounds.outputs, p);
+    let needed = rows_needed(header);
+    let checked = check_table(bounds.rows, needed, found, table.speaking, &points);
     if let Outcome::Refused { reason, row } = checked {
         return refused(reason, row);
     }

@@ -12,7 +12,7 @@ use Rattle.lists.proofs.Tabulated.{length-tabulate, at-tabulate}
 use Rattle.lists.proofs.Filling.{Filled, filled-from, filled-more, filled-all}
 use Rattle.montgomery.specs.Reduction.{reducedOf}
 use Rattle.montgomery.specs.declared.Factor.{Factor}
-use Rattle.lanes.specs.Lanes.{modulusAt, Moduli, Residues, replaced, combinedLane, linearLane, differenceLane, hornerLane}
+use Rattle.lanes.specs.Lanes.{modulusAt, Moduli, Residues, replaced, lessBy, combinedLane, linearLane, differenceLane, hornerLane}
 
 -- an entry of a replaced array
 module _ (start end : ℕ) (f : ℕ → ℕ) (a : List ℕ) where
@@ -44,79 +44,86 @@ module _ (start end : ℕ) (f : ℕ → ℕ) (a : List ℕ) where
   unfolding replaced
   length-replaced = length-tabulate 32 _
 
--- What the loop knows at k: it has stored f's values below k, and from there on the array is as it was.
-pub record Changing (start end : ℕ) (f : ℕ → ℕ) (old : List ℕ) (k : ℕ) (a : List ℕ) : Type 0 where
+-- What the loop knows at k: it has stored f's values below k, and from there on the array is as it was, of residues.
+pub record Changing (ps : List ℕ) (start end : ℕ) (f : ℕ → ℕ) (old : List ℕ) (k : ℕ) (a : List ℕ) : Type 0 where
+  pub moduli : Moduli ps
+  pub residues : Residues ps old
+  pub few : end ≤ 32
   pub begun : start ≤ k
   pub within : k ≤ end
   pub filled : Filled 32 (replacedAt start end f old) (λ k. getD old k 0) k a
 
-pub changing-start : (start end : ℕ) (f : ℕ → ℕ) (a : List ℕ) → start ≤ end → length a ≡ 32 → Changing start end f a start a
-changing-start start end f a l size =
-    record { begun = omega arith; within = l; filled = filled-from 32 _ start a size (at-before start end f a) }
-
-module _ {start end : ℕ} {f : ℕ → ℕ} {old : List ℕ} {k : ℕ} {a : List ℕ} (c : Changing start end f old k a) where
-  -- the entry that is next
-  pub changing-same : getD a k 0 ≡ getD old k 0
-  changing-same = c .filled .rest k (omega arith)
-
-  pub changing-next : (v : ℕ) → k < end → end ≤ 32 → v ≡ f k → Changing start end f old (k + 1) (set a k v)
-  changing-next v l few e = record {
-    begun = omega arith;
-    within = omega arith;
-    filled = filled-more (c .filled) v (omega arith) (e ∙ sym (at-inside start end f old k (c .begun) l));
-  }
-
-  -- what the loop leaves
-  pub changing-end : end ≤ k → a ≡ replaced start end f old
-  unfolding replaced
-  changing-end l = filled-all (c .filled) (λ j h. at-behind start end f old j (omega arith) (omega arith))
+pub changing-start : {ps : List ℕ} {start end : ℕ} {f : ℕ → ℕ} {a : List ℕ} → Moduli ps → Residues ps a → end ≤ 32 → start ≤ end → Changing ps start end f a start a
+changing-start {ps} {start} {end} {f} {a} m r few l =
+    record { moduli = m; residues = r; few = few; begun = omega arith; within = l; filled = filled-from 32 _ start a (r .size) (at-before start end f a) }
 
 -- an array of 32 equal numbers
 pub splat : (x k : ℕ) → k < 32 → getD (replicate 32 x) k 0 ≡ x
 splat x k l = getD-replicate 32 k x 0 l
 
--- what is below the modulus is below that of its lane
-module _ {ps : List ℕ} (m : Moduli ps) (k : ℕ) (l : k < 32) where
-  pub below-lane : {x : ℕ} → x < modulusAt ps → x < getD ps k 0
-  below-lane h = rw (m .each k l) h
+module _ {ps : List ℕ} {start end : ℕ} {f : ℕ → ℕ} {old : List ℕ} {k : ℕ} {a : List ℕ} (c : Changing ps start end f old k a) where
+  -- what the loop leaves
+  pub changing-end : end ≤ k → a ≡ replaced start end f old
+  unfolding replaced
+  changing-end l = filled-all (c .filled) (λ j h. at-behind start end f old j (omega arith) (omega arith))
 
-  pub splat-below : {x : ℕ} → x < modulusAt ps → getD (replicate 32 x) k 0 < getD ps k 0
-  splat-below {x} h = rw (splat x k l) (below-lane h)
+  -- the entry that is next
+  pub changing-same : getD a k 0 ≡ getD old k 0
+  changing-same = c .filled .rest k (omega arith)
 
-  pub splat-most : {x : ℕ} → x ≤ modulusAt ps → getD (replicate 32 x) k 0 ≤ getD ps k 0
-  splat-most {x} h = rw (splat x k l, m .each k l) h
+  module _ (l : k < end) where
+    pub changing-next : {v : ℕ} → v ≡ f k → Changing ps start end f old (k + 1) (set a k v)
+    changing-next {v} e = record {
+      moduli = c .moduli;
+      residues = c .residues;
+      few = c .few;
+      begun = omega arith;
+      within = omega arith;
+      filled = filled-more (c .filled) v (omega arith) (e ∙ sym (at-inside start end f old k (c .begun) l));
+    }
 
-  -- the entry that is next is a residue
-  pub next-below : {start end : ℕ} {f : ℕ → ℕ} {old a : List ℕ} → Residues ps old → Changing start end f old k a → getD a k 0 < getD ps k 0
-  next-below r c = rw (changing-same c) (below-lane (r .below k))
+    -- what is below the modulus is below that of its lane
+    pub lane-below : {x : ℕ} → x < modulusAt ps → x < getD ps k 0
+    lane-below h = rw (c .moduli .each k (omega arith)) h
 
--- a reduction is a residue
-pub reduced-below : (p form low a : ℕ) {r : ℕ} → 0 < p → r ≡ reducedOf p form low a → r < p
-unfolding reducedOf
-reduced-below p form low a h e = rw e (mod-lt _ h)
+    each : (x : ℕ) → getD (replicate 32 x) k 0 ≡ x
+    each x = splat x k (omega arith)
 
-pub less-below : (p a b : ℕ) {r : ℕ} → 0 < p → r ≡ (a + (p - b)) % p → r < p
-less-below p a b h e = rw e (mod-lt _ h)
+    pub splat-below : {x : ℕ} → x < modulusAt ps → getD (replicate 32 x) k 0 < getD ps k 0
+    splat-below {x} h = rw (each x) (lane-below h)
 
--- what the code computes for an entry, by the numbers that it reads, is what the definitions say
-module _ (ps a : List ℕ) (k : ℕ) where
-  pub combined-is : (d c : Factor) (b : List ℕ) {df dl cf cl x u v r : ℕ} → df ≡ d .form → dl ≡ d .low → cf ≡ c .form → cl ≡ c .low
-      → x ≡ getD a k 0 → u ≡ reducedOf (getD ps k 0) df dl x → v ≡ reducedOf (getD ps k 0) cf cl (getD b k 0) → r ≡ (u + (getD ps k 0 - v)) % getD ps k 0
-      → r ≡ combinedLane ps d a c b k
-  unfolding combinedLane
-  combined-is d c b e1 e2 e3 e4 ex eu ev er = rw (er, eu, ev, e1, e2, e3, e4, ex)
+    pub splat-most : {x : ℕ} → x ≤ modulusAt ps → getD (replicate 32 x) k 0 ≤ getD ps k 0
+    splat-most {x} h = rw (each x, c .moduli .each k (omega arith)) h
 
-  pub linear-is : (f : Factor) {df dl lower x u r : ℕ} → df ≡ f .form → dl ≡ f .low → lower ≡ getD (0 ∷ a) k 0
-      → x ≡ getD a k 0 → u ≡ reducedOf (getD ps k 0) df dl x → r ≡ (lower + (getD ps k 0 - u)) % getD ps k 0 → r ≡ linearLane ps f a k
-  unfolding linearLane
-  linear-is f e1 e2 el ex eu er = rw (er, el, eu, e1, e2, ex)
+    -- so is the entry that is next
+    pub next-below : getD a k 0 < getD ps k 0
+    next-below = rw changing-same (lane-below (c .residues .below k))
 
-  pub difference-is : (vs xs : List ℕ) (f : ℕ) {y d l x r : ℕ} → y ≡ f → d ≡ (getD xs k 0 + (getD ps k 0 - y)) % getD ps k 0 → l ≡ d * getD vs k 0 % 65536
-      → x ≡ getD a k 0 → r ≡ reducedOf (getD ps k 0) d l x → r ≡ differenceLane ps vs xs f a k
-  unfolding differenceLane
-  difference-is vs xs f ey ed el ex er = rw (er, el, ed, ey, ex)
+    -- and what is computed
+    pub reduced-below : (form low x : ℕ) {r : ℕ} → r ≡ reducedOf (getD ps k 0) form low x → r < getD ps k 0
+    unfolding reducedOf
+    reduced-below form low x e = rw e (mod-lt _ (let n = next-below in omega arith))
 
-  pub horner-is : (vs xs : List ℕ) (c : ℕ) {m l x u r : ℕ} → m ≡ modulusAt ps - c → l ≡ getD xs k 0 * getD vs k 0 % 65536 → x ≡ getD a k 0
-      → u ≡ reducedOf (getD ps k 0) (getD xs k 0) l x → r ≡ (u + (getD ps k 0 - m)) % getD ps k 0 → r ≡ hornerLane ps vs xs a c k
-  unfolding hornerLane
-  horner-is vs xs c em el ex eu er = rw (er, eu, em, el, ex)
+    pub less-below : (x y : ℕ) {r : ℕ} → r ≡ lessBy ps k x y → r < getD ps k 0
+    less-below x y e = rw e (mod-lt _ (let n = next-below in omega arith))
+
+    -- what the code computes for an entry, by the numbers that it reads, is what the definitions say
+    pub combined-is : (d e : Factor) (b : List ℕ) {u v r : ℕ} → u ≡ reducedOf (getD ps k 0) (getD (replicate 32 (d .form)) k 0) (getD (replicate 32 (d .low)) k 0) (getD a k 0)
+        → v ≡ reducedOf (getD ps k 0) (getD (replicate 32 (e .form)) k 0) (getD (replicate 32 (e .low)) k 0) (getD b k 0) → r ≡ lessBy ps k u v → r ≡ combinedLane ps d old e b k
+    unfolding combinedLane
+    combined-is d e b eu ev er = rw (er, eu, ev, each (d .form), each (d .low), each (e .form), each (e .low), changing-same)
+
+    pub linear-is : (x : Factor) {lower u r : ℕ} → lower ≡ getD (0 ∷ old) k 0 → u ≡ reducedOf (getD ps k 0) (getD (replicate 32 (x .form)) k 0) (getD (replicate 32 (x .low)) k 0) (getD a k 0)
+        → r ≡ lessBy ps k lower u → r ≡ linearLane ps x old k
+    unfolding linearLane
+    linear-is x el eu er = rw (er, el, eu, each (x .form), each (x .low), changing-same)
+
+    pub difference-is : (vs xs : List ℕ) (x : ℕ) {d low r : ℕ} → d ≡ lessBy ps k (getD xs k 0) (getD (replicate 32 x) k 0) → low ≡ d * getD vs k 0 % 65536
+        → r ≡ reducedOf (getD ps k 0) d low (getD a k 0) → r ≡ differenceLane ps vs xs x old k
+    unfolding differenceLane
+    difference-is vs xs x ed el er = rw (er, el, ed, each x, changing-same)
+
+    pub horner-is : (vs xs : List ℕ) (x : ℕ) {low u r : ℕ} → low ≡ getD xs k 0 * getD vs k 0 % 65536 → u ≡ reducedOf (getD ps k 0) (getD xs k 0) low (getD a k 0)
+        → r ≡ lessBy ps k u (getD (replicate 32 (modulusAt ps - x)) k 0) → r ≡ hornerLane ps vs xs old x k
+    unfolding hornerLane
+    horner-is vs xs x el eu er = rw (er, eu, el, each (modulusAt ps - x), changing-same)

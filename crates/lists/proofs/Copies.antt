@@ -1,10 +1,11 @@
 -- Bytes copied to the front of old ones, one after the other.
-use Prim.Native.Nat.{ℕ, suc, _+_, _≤_, _<_}
+use Prim.Native.Nat.{ℕ, suc, _+_, _<_}
 use mathlib.Core.List.{List, _++_}
-use mathlib.Core.Path.{_≡_, sym, ap, _∙_}
+use mathlib.Core.Path.{_≡_, sym, ap, ap₂, _∙_}
+use native.Mathlib.Nat.{zero-add}
 use native.Mathlib.Omega.{arith}
-use lib.ListN.{length, getD, set, take, drop}
-use lib.Seq.{paste, paste-suc, length-take-le}
+use lib.ListN.{length, getD, set, drop}
+use lib.Seq.{paste, paste-suc, take-length}
 use Rattle.lists.specs.Overwriting.{overwritten}
 
 module _ (bytes old : List ℕ) where
@@ -16,8 +17,6 @@ module _ (bytes old : List ℕ) where
       ap (λ l. set l k (getD bytes k 0)) copied ∙ ap (λ j. set (paste old 0 bytes k) j (getD bytes k 0)) (sym place)
       ∙ paste-suc old 0 bytes k 0 (omega arith) inside ∙ ap (paste old 0 bytes) next
 
-  -- all of the first n
-  pub copy-all : (n : ℕ) → n ≤ length bytes → paste old 0 bytes n ≡ overwritten (take n bytes) old
-  copy-all n inside =
-      let place : 0 + n ≡ n = omega arith in
-      ap (λ k. take n bytes ++ drop k old) (place ∙ sym (length-take-le n bytes inside))
+  -- all of them
+  pub copy-all : paste old 0 bytes (length bytes) ≡ overwritten bytes old
+  copy-all = ap₂ (λ l k. l ++ drop k old) (take-length bytes) (zero-add (length bytes))

@@ -48,6 +48,11 @@ unfolding countBelow
 count-most zero test = omega arith
 count-most (suc n) test = omega (arith, count-most n test, one-if-most (test n))
 
+-- so where a count goes on by one place
+pub count-more : (n : ℕ) (test : ℕ → Bool) {count flag : ℕ} → count ≡ countBelow n test → flag ≡ oneIf (test n)
+    → (count + flag ≡ countBelow (n + 1) test) × (count + flag ≤ n + 1)
+count-more n test e f = let sum = ap₂ _+_ e f ∙ sym (count-step n test) in (sum, omega (arith, sum, count-most (n + 1) test))
+
 -- and as many where all pass
 pub count-all : (n : ℕ) (test : ℕ → Bool) → ((r : ℕ) → r < n → test r ≡ true) → countBelow n test ≡ n
 unfolding countBelow

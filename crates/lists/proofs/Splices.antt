@@ -19,7 +19,7 @@ module _ (at : ℕ) (first old : List ℕ) (fits : at + length first ≤ length 
   head-length = length-append (take at old) first ∙ ap (λ k. k + length first) (length-take-le at old (omega arith))
 
   -- two adjoining splices are one
-  pub splice-splice : (second : List ℕ) → spliced (at + length first) second (spliced at first old) ≡ spliced at (first ++ second) old
+  splice-splice : (second : List ℕ) → spliced (at + length first) second (spliced at first old) ≡ spliced at (first ++ second) old
   splice-splice second =
       let next = at + length first in
       let once = spliced at first old in
@@ -29,6 +29,11 @@ module _ (at : ℕ) (first old : List ℕ) (fits : at + length first ≤ length 
       let rest : drop (next + length second) once ≡ drop (at + length (first ++ second)) old =
       sym (drop-drop (length second) next once) ∙ ap (drop (length second)) behind ∙ drop-drop (length second) next old ∙ ap (λ k. drop k old) place in
       ap₂ (λ l m. l ++ second ++ m) before rest ∙ ap (λ l. l ++ drop (at + length (first ++ second)) old) (append-assoc (take at old) first second)
+
+-- bytes put behind so many that were put there before
+pub splice-more : (at : ℕ) (first second old : List ℕ) {area : List ℕ} {written : ℕ} → written ≡ length first → at + written ≤ length old → area ≡ spliced at first old
+    → spliced (at + written) second area ≡ spliced at (first ++ second) old
+splice-more at first second old size fits before = rw (before, size) (splice-splice at first old (rw size at fits) second)
 
 pub splice-behind : (first second old : List ℕ) → length first ≤ length old → spliced (length first) second (overwritten first old) ≡ overwritten (first ++ second) old
 splice-behind first second old fits =

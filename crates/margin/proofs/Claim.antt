@@ -13,17 +13,16 @@ use Rattle.format.specs.Outcomes.{reportOf}
 use Rattle.format.proofs.Numbers.{number-positive}
 use Rattle.header.specs.Header.{dfOf, boundsOf}
 use Rattle.marked_rows.specs.Marks.{speakingCount}
-use Rattle.job.specs.Form.{formOutcomeOf}
 use Rattle.job.specs.Refusals.{outcomeOf, WellFormed}
 use Rattle.job.proofs.Facts.{well-formed-facts}
-use Rattle.job.proofs.Forms.{form-outcome, form-with-room, form-accepted, form-refused, accepted-or-refused}
+use Rattle.job.proofs.Forms.{form-outcome, form-with-room, form-accepted, accepted-or-refused}
 use Rattle.problem.specs.Reduced.{Reduced}
 use Rattle.problem.specs.Answers.{wrongCount, Within, Answer}
 use Rattle.problem.proofs.Same.{wrong-count-same}
 use Rattle.soundness.proofs.OnlyOne.{SameOrFew, same-or-few}
 use Rattle.recovery.specs.Recovery.{RefusedEarly, Answered, RefusedUnsolvable, Settled}
 use Rattle.margin.specs.Margin.{marginOf}
-use Rattle.margin.proofs.Laws.{margin-refused, margin-accepted, margin-sum, margin-positive}
+use Rattle.margin.proofs.Laws.{margin-accepted, margin-sum, margin-positive}
 use Rattle.margin.specs.Others.{Other, Margin}
 use Rattle.margin.specs.RecoveredMargin.{RecoveredMargin}
 
@@ -53,7 +52,9 @@ answer-margin s area wf {f} {g} a =
     vector-margin s (a .within) (a .reduced)
     (margin-positive s (wrongCount s f g) (form-outcome s ∙ form-accepted s area wf) (omega (arith, well-formed-facts s area wf .enough-speaking, a .few-wrong)))
 
-module _ (s area : List ℕ) {r : Report} {after : List ℕ} (S : Settled s area r after) {m : ℕ} (M : m ≡ marginOf s (r .wrong)) where
+module _
+    (s area : List ℕ) {r : Report} {after : List ℕ} (S : Settled s area r after) {m : ℕ}
+    (M : r .refusal ≡ 0 → m ≡ marginOf s (r .wrong)) where
   recovered : r .refusal ≡ 0 → (f : ℕ → List ℕ) (g : List ℕ) → Answer s f g → Margin s f g m
   recovered zero f g a = by (S .cases) (accepted-or-refused s (length area))
     where
@@ -64,18 +65,8 @@ module _ (s area : List ℕ) {r : Report} {after : List ℕ} (S : Settled s area
           let number = ap (λ (x : Report). x .refusal) (e .report ∙ ap reportOf (o .2)) in absurd (omega (arith, number, number-positive (o .0), zero))
       by (inr (inl A)) o =
           let count = ap (λ (x : Report). x .wrong) (A .report) ∙ wrong-count-same s (A .only f g a) in
-          subst (Margin s f g) (sym (M ∙ ap (marginOf s) count)) (answer-margin s (length area) (A .well-formed) a)
+          subst (Margin s f g) (sym (M zero ∙ ap (marginOf s) count)) (answer-margin s (length area) (A .well-formed) a)
       by (inr (inr u)) o = let eight = ap (λ (x : Report). x .refusal) (u .report) in absurd (omega (arith, eight, zero))
 
-  refused : 0 < r .refusal → (r .refusal ≡ 7 → ⊥) → (r .refusal ≡ 8 → ⊥) → m ≡ 0
-  refused positive other other' = M ∙ margin-refused s (r .wrong) (by (S .cases))
-    where
-      by : RefusedEarly s area r after ⊎ (Answered s area r after ⊎ RefusedUnsolvable s area r after) → formOutcomeOf s ≡ Accepted → ⊥
-      by (inl e) accepted =
-          let number = ap (λ (x : Report). x .refusal) (e .report) in
-          e .malformed (form-refused s (length area) (omega (arith, number, positive)) (λ seven. other (number ∙ seven)) ∙ sym (form-outcome s) ∙ accepted)
-      by (inr (inl A)) accepted = let none = ap (λ (x : Report). x .refusal) (A .report) in omega (arith, none, positive)
-      by (inr (inr u)) accepted = other' (ap (λ (x : Report). x .refusal) (u .report))
-
-  pub recovered-margin : RecoveredMargin s area r after m
-  recovered-margin = record { first = S; second = M; recovered = recovered; refused = refused }
+  pub recovered-margin : (0 < r .refusal → m ≡ 0) → RecoveredMargin s area r after m
+  recovered-margin none = record { first = S; second = M; recovered = recovered; refused = none }

@@ -32,9 +32,13 @@ pub side-is : (e n : ℕ) {x y u v : ℕ} → x ≡ u → y ≡ v
     → _≡_ {A = PairState} (record { e = e; n = n; coefficients = x; discrepancies = y }) (record { e = e; n = n; coefficients = u; discrepancies = v })
 side-is e n ex ey = ap₂ (λ (x y : ℕ). record { e = e; n = n; coefficients = x; discrepancies = y }) ex ey
 
--- coefficients have 16 bits
-pub narrow-held : (q : Prime) {n : ℕ} {a : List ℕ} → Holds (modulusOf q) n a → (k : ℕ) → getD a k 0 < 65536
-narrow-held q h k = let l = h .bounded .residues k in let s = modulus-small q in omega arith
+-- 32 coefficients of 16 bits in each polynomial
+pub narrow-held : (q : Prime) {n : ℕ} {a b : List ℕ} → PairHeld (modulusOf q) n a b
+    → (length a ≡ 32) × ((k : ℕ) → getD a k 0 < 65536) × (length b ≡ 32) × ((k : ℕ) → getD b k 0 < 65536)
+narrow-held q h = (h .left .size, narrow (h .left), h .right .size, narrow (h .right))
+  where
+    narrow : {n : ℕ} {a : List ℕ} → Holds (modulusOf q) n a → (k : ℕ) → getD a k 0 < 65536
+    narrow h k = let l = h .bounded .residues k in let s = modulus-small q in omega arith
 
 pub bounded-held : {p n : ℕ} {a b : List ℕ} (e : ℕ) → PairHeld p n a b → PairBounded p n (pairOf a b e)
 bounded-held e h = record { left = h .left .bounded; right = h .right .bounded }

@@ -78,11 +78,6 @@ freeing {u = u} {w = w} cs fits h k e =
       k .held .discrepancies,
     )
 
--- the length may be given by an equal number
-pub freed-longer : {r : RowStep} {n m : ℕ} {ps a b d s t e s′ t′ e′ : List ℕ} {u u′ : PairState} → n ≡ m → Freed r ps n a b d u s t e u′ s′ t′ e′
-    → Freed r ps m a b d u s t e u′ s′ t′ e′
-freed-longer h k = rw h at k
-
 -- one of the pairs, (a, b), beside the other, (s, t)
 module _ {r : RowStep} (fits : Fits r) {ps vs xs : List ℕ} {u w : PairState} {a b d s t e : List ℕ} (h : Ready r u a b d) (k : Ready r w s t e)
     (leads : Bool) {u′ : PairState} {a′ b′ d′ : List ℕ} where
@@ -132,7 +127,7 @@ module _ {r : RowStep} (fits : Fits r) {ps vs xs : List ℕ} {u w : PairState} {
 pub exchanged : {r : RowStep} → Fits r → {ps vs xs : List ℕ} {u w u′ w′ : PairState} {a b d s t e a′ b′ d′ s′ t′ e′ : List ℕ}
     → Ready r u a b d → Ready r w s t e → (leads follows : Bool)
     → (getD d (r .index) 0 ≡ 0 → ⊥) → ((getD e (r .index) 0 ≡ 0 → ⊥) → (leads ≡ true) × (follows ≡ false))
-    → Advanced r ps vs xs u a b d u′ a′ b′ d′ → Freed r ps (longerOf (u .n) (w .n)) a b d w s t e w′ s′ t′ e′
+    → Advanced r ps vs xs u a b d u′ a′ b′ d′ → {l : ℕ} → l ≡ longerOf (u .n) (w .n) → Freed r ps l a b d w s t e w′ s′ t′ e′
     → Lined r ps vs xs leads u a b d w s t e u′ a′ b′ d′ × Lined r ps vs xs follows w s t e u a b d w′ s′ t′ e′
-exchanged fits h k leads follows n c i (inl (z, f)) = (advances fits h k leads n (inl z) i, stays fits k h follows z f)
-exchanged fits h k leads follows n c i (inr (m, f)) = (advances fits h k leads n (inr (c m .0)) i, clears fits k h follows m n (c m .1) f)
+exchanged fits h k leads follows n c i e (inl (z, f)) = (advances fits h k leads n (inl z) i, stays fits k h follows z f)
+exchanged fits h k leads follows n c i e (inr (m, f)) = (advances fits h k leads n (inr (c m .0)) i, clears fits k h follows m n (c m .1) (rw e at f))

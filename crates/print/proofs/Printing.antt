@@ -21,7 +21,7 @@ use Rattle.text.specs.declared.Written.{Written}
 use Rattle.text.specs.declared.Written.the-variants.{Bytes}
 use Rattle.text.specs.Text.{fitsOf, textOf, writtenOf, bufferAfter}
 use Rattle.text.proofs.Writing.{true-fits, told-bytes}
-use Rattle.print.specs.Printed.{textFor, Printed}
+use Rattle.print.specs.Printed.{answerArea, textFor, Printed}
 
 -- the bounds of a parsed job, whatever its outcome
 parsed-fits : (s : List ℕ) (room : ℕ) → fitsOf (parsedJobOf s room .bounds) ≡ true
@@ -35,12 +35,12 @@ parsed-fits s room = by-outcome (outcomeOf s room)
 
 -- the call that writes the text answers w and leaves the buffer as `after`
 module _
-    (s area left old after : List ℕ) (outcome : Outcome) (b : Bounds) (margin : ℕ) (w : Written)
-    (known : b ≡ parsedJobOf s (length area) .bounds) (room : 1280 ≤ length old)
+    (s left old after : List ℕ) (outcome : Outcome) (b : Bounds) (margin : ℕ) (w : Written)
+    (known : b ≡ parsedJobOf s 254 .bounds) (room : 1280 ≤ length old)
     (answer : w ≡ writtenOf b outcome margin left (length old)) (buffer : after ≡ bufferAfter b outcome margin left old)
     (short : fitsOf b ≡ true → length (textOf b outcome margin left) ≤ 1280) where
   good : fitsOf b ≡ true
-  good = ap fitsOf known ∙ parsed-fits s (length area)
+  good = ap fitsOf known ∙ parsed-fits s 254
 
   told : (Bytes (length (textOf b outcome margin left)) ≡ writtenOf b outcome margin left (length old))
       × (overwritten (textOf b outcome margin left) old ≡ bufferAfter b outcome margin left old)
@@ -50,9 +50,9 @@ module _
   pub always-written : w ≡ Bytes (length (textOf b outcome margin left))
   always-written = answer ∙ sym (told .0)
 
-  pub printed : RecoveredMargin s area (reportOf outcome) left margin → (n : ℕ) → w ≡ Bytes n → Printed s area left old n after
+  pub printed : RecoveredMargin s answerArea (reportOf outcome) left margin → (n : ℕ) → w ≡ Bytes n → Printed s old n after
   printed measured n is =
-      let text = textFor s (length area) outcome margin left in
+      let text = textFor s outcome margin left in
       let same : textOf b outcome margin left ≡ text = ap (λ bounds. textOf bounds outcome margin left) known in
       let whole = always-written in
       let size : n ≡ length (textOf b outcome margin left) = cc in
@@ -60,6 +60,7 @@ module _
       let within : n ≤ length after = omega (arith, ap length holds, length-append text (drop (length text) old), ap length same) in
       record {
         outcome = outcome;
+        left = left;
         margin = margin;
         measured = measured;
         size = size ∙ ap length same;

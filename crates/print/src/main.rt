@@ -6,18 +6,18 @@ use libc::STDIN_FILENO;
 use libc::STDOUT_FILENO;
 use text::Written;
 
-// Recovers a job into the area and writes the text of what came out to the buffer's start; returns the text's length.
-fn recovered_text(bytes: &[u8], area: &mut [u8], buffer: &mut [u8]) -> usize
+// Recovers a job into an area of 254 bytes, which no answer exceeds, and writes the text of what came out to the buffer's start; returns the text's length.
+fn recovered_text(bytes: &[u8], buffer: &mut [u8]) -> usize
     requires { ⌜ 1280 ≤ length (now buffer) ⌝ }
-    ensures { λ r.
-        ⌜ Printed (now (bytes .entry)) (now (area .entry)) (now (area .exit)) (now (buffer .entry)) r (now (buffer .exit)) ⌝ }
+    ensures { λ r. ⌜ Printed (now (bytes .entry)) (now (buffer .entry)) r (now (buffer .exit)) ⌝ }
 {
-    let measured = margin::recover_with_margin(bytes, area);
+    let mut area = [0u8; 254];
+    let measured = margin::recover_with_margin(bytes, &mut area);
     let outcome = measured.recovery;
     let margin = measured.margin;
-    let parsed = job::read(bytes, area.len());
+    let parsed = job::read(bytes, 254);
     let bounds = parsed.bounds;
-    match text::write_text(bounds, outcome, margin, area, buffer) {
+    match text::write_text(bounds, outcome, margin, &area, buffer) {
         Written::Bytes(count) => count,
         Written::TooShort => 0,
         Written::Malformed => 0,
@@ -25,9 +25,8 @@ fn recovered_text(bytes: &[u8], area: &mut [u8], buffer: &mut [u8]) -> usize
 }
 
 fn print(bytes: &[u8]) {
-    let mut area = [0u8; 254];
     let mut buffer = [0u8; 1280];
-    let count = recovered_text(bytes, &mut area, &mut buffer);
+    let count = recovered_text(bytes, &mut buffer);
     io::write_all(STDOUT_FILENO, &buffer[..count]);
 }
 

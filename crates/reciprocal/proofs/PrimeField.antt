@@ -2,7 +2,7 @@
 use Prim.Native.Nat.{ℕ, _+_, _-_, _*_, _%_, _<_, Fin}
 use mathlib.Core.Path.{_≡_, refl, sym, ap, _∙_}
 use mathlib.Core.Logic.{_≢_}
-use native.Mathlib.Nat.{add-comm, add-mod-mod, add-zero, mod-add-mod, mod-eq-of-lt, mod-lt, mod-self, mul-comm, mul-one, zero-mod}
+use native.Mathlib.Nat.{add-assoc, add-comm, add-mod-mod, add-zero, mod-add-mod, mod-eq-of-lt, mod-lt, mod-self, mul-assoc, mul-comm, mul-one, zero-mod}
 use native.Mathlib.Decide.{Fin·val-path, Fin-discrete}
 use native.Mathlib.Omega.{arith}
 use Rattle.algebra.proofs.Ring.{Ring}
@@ -35,21 +35,25 @@ module _ (p : ℕ) (P : IsPrime p) where
   unfolding residue
   residue-number a = Fin·val-path (mod-eq-of-lt (a .1))
 
-  unfoldable pub addR : Residue → Residue → Residue
-  addR a b = residue (a .0 + b .0)
+  -- an operation on numbers, on residues
+  unfoldable pub lifted : (ℕ → ℕ → ℕ) → Residue → Residue → Residue
+  lifted op a b = residue (op (a .0) (b .0))
 
-  unfoldable pub mulR : Residue → Residue → Residue
-  mulR a b = residue (a .0 * b .0)
+  abbrev pub addR : Residue → Residue → Residue
+  addR = lifted _+_
+
+  abbrev pub mulR : Residue → Residue → Residue
+  mulR = lifted _*_
 
   unfoldable pub negR : Residue → Residue
   negR a = residue (p - a .0)
 
   pub residue-add : (m n : ℕ) → addR (residue m) (residue n) ≡ residue (m + n)
-  unfolding addR
+  unfolding lifted
   residue-add m n = residue-equal _ _ (rw (number-residue, number-residue) (mod-add-mod m p (n % p) ∙ add-mod-mod m n p))
 
   pub residue-mul : (m n : ℕ) → mulR (residue m) (residue n) ≡ residue (m * n)
-  unfolding mulR
+  unfolding lifted
   residue-mul m n = residue-equal _ _ (rw (number-residue, number-residue) (mod-mul m (n % p) p ∙ mul-mod m n p))
 
   -- n and p - n cancel
@@ -57,16 +61,21 @@ module _ (p : ℕ) (P : IsPrime p) where
   unfolding negR
   residue-neg n l = ap (λ x. residue (p - x)) (number-residue n ∙ mod-eq-of-lt l)
 
-  pub addR-comm : (a b : Residue) → addR a b ≡ addR b a
-  unfolding addR
-  addR-comm a b = ap residue (add-comm _ _)
+  -- it keeps its laws
+  module _ (op : ℕ → ℕ → ℕ) where
+    pub lifted-comm : ((m n : ℕ) → op m n ≡ op n m) → (a b : Residue) → lifted op a b ≡ lifted op b a
+    unfolding lifted
+    lifted-comm comm a b = ap residue (comm _ _)
 
-  pub addR-assoc : (a b c : Residue) → addR (addR a b) c ≡ addR a (addR b c)
-  addR-assoc a b c =
-      rw (← residue-number a, ← residue-number b, ← residue-number c) (simp residue-add (ap residue (omega arith)))
+    module _ (carried : (m n : ℕ) → lifted op (residue m) (residue n) ≡ residue (op m n)) where
+      pub lifted-assoc : ((k m n : ℕ) → op (op k m) n ≡ op k (op m n)) → (a b c : Residue) → lifted op (lifted op a b) c ≡ lifted op a (lifted op b c)
+      lifted-assoc assoc a b c = rw (← residue-number a, ← residue-number b, ← residue-number c) (simp carried (ap residue (assoc _ _ _)))
+
+      pub lifted-unit : (e : ℕ) → ((n : ℕ) → op n e ≡ n) → (a : Residue) → lifted op a (residue e) ≡ a
+      lifted-unit e unit a = rw (← residue-number a) (simp (carried, unit))
 
   pub addR-null : (a : Residue) → addR a (residue 0) ≡ a
-  addR-null a = rw (← residue-number a) (simp (residue-add, add-zero))
+  addR-null = lifted-unit _+_ residue-add 0 add-zero
 
   pub addR-neg : (a : Residue) → addR a (negR a) ≡ residue 0
   unfolding negR
@@ -75,17 +84,6 @@ module _ (p : ℕ) (P : IsPrime p) where
       let whole : a .0 + (p - a .0) ≡ p = omega arith in
       ap (λ x. addR x (negR a)) (sym (residue-number a)) ∙ residue-add (a .0) (p - a .0)
       ∙ residue-equal _ _ (ap (λ x. x % p) whole ∙ mod-self p ∙ sym (zero-mod p))
-
-  pub mulR-comm : (a b : Residue) → mulR a b ≡ mulR b a
-  unfolding mulR
-  mulR-comm a b = ap residue (mul-comm _ _)
-
-  pub mulR-assoc : (a b c : Residue) → mulR (mulR a b) c ≡ mulR a (mulR b c)
-  mulR-assoc a b c =
-      rw (← residue-number a, ← residue-number b, ← residue-number c) (simp residue-mul (ap residue (omega arith)))
-
-  pub mulR-one : (a : Residue) → mulR a (residue 1) ≡ a
-  mulR-one a = rw (← residue-number a) (simp (residue-mul, mul-one))
 
   pub mulR-add : (a b c : Residue) → mulR a (addR b c) ≡ addR (mulR a b) (mulR a c)
   mulR-add a b c =
@@ -100,20 +98,20 @@ module _ (p : ℕ) (P : IsPrime p) where
     neg = negR;
     null = residue 0;
     one = residue 1;
-    add-comm = addR-comm;
-    add-assoc = addR-assoc;
+    add-comm = lifted-comm _+_ add-comm;
+    add-assoc = lifted-assoc _+_ residue-add add-assoc;
     add-null = addR-null;
     add-neg = addR-neg;
-    mul-comm = mulR-comm;
-    mul-assoc = mulR-assoc;
-    mul-one = mulR-one;
+    mul-comm = lifted-comm _*_ mul-comm;
+    mul-assoc = lifted-assoc _*_ residue-mul mul-assoc;
+    mul-one = lifted-unit _*_ residue-mul 1 mul-one;
     mul-add = mulR-add;
   }
 
   -- numbers whose product leaves 1 have residues that are each other's reciprocals
   pub residue-unit : (m n : ℕ) → m * n % p ≡ 1 → mulR (residue n) (residue m) ≡ residue 1
   residue-unit m n e =
-      mulR-comm _ _ ∙ residue-mul m n ∙ residue-equal _ _ (e ∙ sym (mod-eq-of-lt (let t = P .two in omega arith)))
+      lifted-comm _*_ mul-comm _ _ ∙ residue-mul m n ∙ residue-equal _ _ (e ∙ sym (mod-eq-of-lt (let t = P .two in omega arith)))
 
   -- a residue that is not 0 has one
   inverse-of : (a : Residue) → a ≢ residue 0 → (r : ℕ) × (r < p) × (r * a .0 % p ≡ 1)

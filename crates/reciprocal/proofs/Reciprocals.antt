@@ -17,7 +17,7 @@ use Rattle.lists.proofs.Truth.{clash}
 use Rattle.field.proofs.Remainders.{mod-mul, mul-mod, times-unit}
 use Rattle.field.proofs.Primality.{IsPrime}
 
-number-not-none : {r : ℕ} → Number r ≡ None → ⊥
+pub number-not-none : {r : ℕ} → Number r ≡ None → ⊥
 number-not-none e = clash cc
 
 same-number : {r s : ℕ} → Number r ≡ Number s → r ≡ s
@@ -107,3 +107,10 @@ module _ (p : ℕ) (P : IsPrime p) (a : ℕ) where
     λ e. let nonzero : 0 < a % p → ⊥ = λ l. number-not-none (nonzero-has-one l .1 ∙ e) in omega arith,
     λ z. sym (zero-has-none p a (let two = P .two in omega arith) z),
   )
+
+  pub reciprocal-below : (r : ℕ) → Number r ≡ reciprocalOf p a → r < p
+  reciprocal-below r e =
+      let nonzero : a % p ≡ 0 → ⊥ = λ z. number-not-none (e ∙ none-exactly .1 z) in
+      let i = inverse-exists (omega arith) in
+      let same : r ≡ i .0 = same-number (e ∙ sym (reciprocal-is p a (i .0) (i .1) (i .2))) in
+      omega (arith, i .1)

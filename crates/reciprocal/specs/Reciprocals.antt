@@ -15,3 +15,12 @@ reciprocalFound Nothing = None
 -- The number below p whose product with a leaves 1 modulo p. There is at most one; none where a is 0 modulo p, and for a prime p only there.
 unfoldable pub reciprocalOf : (p a : ℕ) → OptionalReciprocal
 reciprocalOf p a = reciprocalFound (firstBelow p (λ r. eqb (r * a % p) 1))
+
+-- what a table of reciprocals has at an index: the reciprocal, and 0 where there is none
+abbrev pub entryFor : OptionalReciprocal → ℕ
+entryFor (Number r) = r
+entryFor None = 0
+
+-- Paper 01, of the table of 257 entries: "entry times index is 1 modulo 257", with "entry 0 being 0", since 0 has no reciprocal.
+abbrev pub tableEntry : (index : ℕ) → ℕ
+tableEntry index = entryFor (reciprocalOf 257 index)

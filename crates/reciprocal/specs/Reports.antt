@@ -12,7 +12,11 @@ use Rattle.reciprocal.specs.Reciprocals.{reciprocalOf}
 unfoldable pub codedReciprocal : (code a : ℕ) → OptionalReciprocal
 codedReciprocal code a = cond (leb code 3) (reciprocalOf (modulusOf (primeOfCode code)) a) None
 
--- whether there is a reciprocal, 1 or 0, and which number it is. Beside "none" the second number is 0, and no reciprocal.
+-- the largest number of 32 bits: no residue of any of the four primes, so that it is never a reciprocal
+abbrev pub noReciprocal : ℕ
+noReciprocal = 4294967295
+
+-- whether there is a reciprocal, 1 or 0, and which number it is
 abbrev pub reciprocalReportOf : OptionalReciprocal → ReciprocalReport
 reciprocalReportOf (Number r) = record { exists = 1; value = r }
-reciprocalReportOf None = record { exists = 0; value = 0 }
+reciprocalReportOf None = record { exists = 0; value = noReciprocal }

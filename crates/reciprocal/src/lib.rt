@@ -70,6 +70,9 @@ pub fn coded_reciprocal(code: u32, a: u32) -> OptionalReciprocal
     OptionalReciprocal::None
 }
 
+// The number beside "no reciprocal": no residue of any prime, so that nobody takes it for a value.
+const NO_RECIPROCAL: u32 = 4294967295;
+
 // An answer in numbers: whether there is a reciprocal, and which. Callers in C get it as it stands here.
 #[repr(C)]
 pub struct ReciprocalReport {
@@ -87,7 +90,7 @@ pub fn reported(answer: OptionalReciprocal) -> ReciprocalReport
         },
         OptionalReciprocal::None => ReciprocalReport {
             exists: 0,
-            value: 0,
+            value: NO_RECIPROCAL,
         },
     }
 }

@@ -2,9 +2,9 @@
 ghost use Prim.Native.Nat.{_<_};
 ghost use mathlib.Core.Path.{_≡_};
 ghost use Rattle.reciprocal.specs.declared.OptionalReciprocal.the-variants.{Number};
-ghost use Rattle.reciprocal.specs.Reciprocals.{reciprocalOf};
+ghost use Rattle.reciprocal.specs.Reciprocals.{reciprocalOf, tableEntry};
 
-// Entry times index is 1 modulo 257. Entry 0 only fills its place: 0 has no reciprocal, and no call reads it.
+// Entry times index is 1 modulo 257; entry 0 is 0, as 0 has no reciprocal.
 const RECIPROCALS: [u32; 257] = [
     0,
     1,
@@ -265,11 +265,19 @@ const RECIPROCALS: [u32; 257] = [
     256,
 ];
 
+// The table's entry at any index, 0 too.
+fn entry_at(index: u32) -> u32
+    requires { ⌜ index < 257 ⌝ }
+    ensures { λ r. ⌜ r ≡ tableEntry index ⌝ }
+{
+    let i = index as usize;
+    RECIPROCALS[i]
+}
+
 // The reciprocal of a residue that is not 0.
 pub fn reciprocal_of(a: u32) -> u32
     requires { ⌜ (0 < a) × (a < 257) ⌝ }
     ensures { λ r. ⌜ Number r ≡ reciprocalOf 257 a ⌝ }
 {
-    let i = a as usize;
-    RECIPROCALS[i]
+    entry_at(a)
 }

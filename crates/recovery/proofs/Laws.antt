@@ -1,5 +1,5 @@
 -- What a call settles is determined, and whether a job has an answer is decided.
-use mathlib.Core.Path.{_≡_, refl, sym, _∙_, ap, ap₂}
+use mathlib.Core.Path.{_≡_, refl, sym, _∙_, ap}
 use mathlib.Core.Logic.{_⊎_, inl, inr}
 use mathlib.Core.Bool.{Bool, true, false}
 use mathlib.Core.List.{List}
@@ -9,11 +9,11 @@ use native.Mathlib.Omega.{arith}
 use lib.ListN.{length}
 use Rattle.format.specs.declared.Reason.the-variants.{SpareBit, TooManyRows, NotReduced}
 use Rattle.format.specs.declared.Outcome.{Outcome}
-use Rattle.format.specs.declared.Outcome.the-variants.{Accepted, Recovered, Refused}
+use Rattle.format.specs.declared.Outcome.the-variants.{Accepted, Refused}
 use Rattle.format.specs.declared.Report.{Report}
 use Rattle.format.specs.Outcomes.{reportOf, recoveredReport}
 use Rattle.format.specs.Bounds.{answerLengthOf}
-use Rattle.format.proofs.Numbers.{number-injective, number-positive}
+use Rattle.format.proofs.Reports.{outcome-injective}
 use Rattle.header.specs.Header.{boundsOf}
 use Rattle.job.specs.Refusals.{outcomeOf}
 use Rattle.job.proofs.Facts.{WellFormedFacts}
@@ -89,19 +89,14 @@ module _ (s area : List ℕ) where
   pub never-later : (row : ℕ) {after : List ℕ} → (Settled s area (reportOf (Refused TooManyRows row)) after → ⊥) × (Settled s area (reportOf (Refused NotReduced row)) after → ⊥)
   never-later row = (λ S. omega (arith, refusals-given S .1 (omega arith) .0), λ S. omega (arith, refusals-given S .1 (omega arith) .0))
 
+  -- nor Accepted
+  pub never-accepted : {o : Outcome} {after : List ℕ} → Settled s area (reportOf o) after → o ≡ Accepted → ⊥
+  never-accepted {o} S accepted = by (settled-says S)
+    where
+      by : (0 < reportOf o .refusal) ⊎ (0 < reportOf o .written) → ⊥
+      by (inl l) = let e = ap (λ x. reportOf x .refusal) accepted in omega arith
+      by (inr l) = let e = ap (λ x. reportOf x .written) accepted in omega arith
+
   -- and the enum that `recover` returns is determined
   pub outcome-unique : {o o' : Outcome} {after after' : List ℕ} → Settled s area (reportOf o) after → Settled s area (reportOf o') after' → o ≡ o'
-  outcome-unique {o} {o'} S S' = by o o' (settled-says S) (settled-says S') (settled-unique s area S S' .0)
-    where
-      by : (o o' : Outcome) → (0 < reportOf o .refusal) ⊎ (0 < reportOf o .written) → (0 < reportOf o' .refusal) ⊎ (0 < reportOf o' .written)
-          → reportOf o ≡ reportOf o' → o ≡ o'
-      by Accepted o' (inl l) h' e = absurd (omega arith)
-      by Accepted o' (inr l) h' e = absurd (omega arith)
-      by (Recovered n w) Accepted h (inl l) e = absurd (omega arith)
-      by (Recovered n w) Accepted h (inr l) e = absurd (omega arith)
-      by (Refused q k) Accepted h (inl l) e = absurd (omega arith)
-      by (Refused q k) Accepted h (inr l) e = absurd (omega arith)
-      by (Recovered n w) (Recovered n' w') h h' e = ap₂ Recovered (ap (λ t. t .written) e) (ap (λ t. t .wrong) e)
-      by (Recovered n w) (Refused q k) h h' e = absurd (let z = ap (λ t. t .refusal) e in let l = number-positive q in omega arith)
-      by (Refused q k) (Recovered n w) h h' e = absurd (let z = ap (λ t. t .refusal) e in let l = number-positive q in omega arith)
-      by (Refused q k) (Refused q' k') h h' e = ap₂ Refused (number-injective q q' (ap (λ t. t .refusal) e)) (ap (λ t. t .row) e)
+  outcome-unique {o} {o'} S S' = outcome-injective o o' (never-accepted S) (never-accepted S') (settled-unique s area S S' .0)

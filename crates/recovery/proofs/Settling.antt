@@ -7,10 +7,10 @@ use Prim.Native.Nat.{ℕ, _≤_, _<_}
 use native.Mathlib.Decide.{decLt}
 use native.Mathlib.Omega.{arith}
 use lib.ListN.{length}
-use Rattle.lists.proofs.Truth.{clash}
-use Rattle.format.specs.declared.Outcome.the-variants.{Accepted}
+use Rattle.format.specs.declared.Reason.the-variants.{NoAnswer}
+use Rattle.format.specs.declared.Outcome.the-variants.{Accepted, Refused}
 use Rattle.format.specs.declared.Report.{Report}
-use Rattle.format.specs.Outcomes.{refusedReport, recoveredReport, reportOf}
+use Rattle.format.specs.Outcomes.{recoveredReport, reportOf}
 use Rattle.format.specs.Bounds.{answerLengthOf}
 use Rattle.poly.specs.Vectors.{coefficientsAt}
 use Rattle.header.specs.Header.{boundsOf}
@@ -19,7 +19,7 @@ use Rattle.marked_rows.specs.Table.{jobPoints, jobWeights, jobValues}
 use Rattle.job.specs.declared.parsed_job.ParsedJob.{ParsedJob}
 use Rattle.job.specs.Refusals.{outcomeOf, WellFormed}
 use Rattle.job.specs.ParsedJob.{parsedJobOf}
-use Rattle.job.proofs.Facts.{WellFormedFacts, well-formed-facts}
+use Rattle.job.proofs.Facts.{WellFormedFacts, well-formed-facts, refused-not-accepted}
 use Rattle.job.proofs.Numbers.{Early, outcome-early}
 use Rattle.job.proofs.Laws.{parsed-outcome}
 use Rattle.row_mask.specs.Word.{wrongCountOf}
@@ -88,10 +88,10 @@ module _ (s area : List ℕ) where
 
     -- the solver's result where there is an answer
     abbrev answered : Solution
-    answered = record { solvable = true; word = wordFor s f g; wrong = wrongCount s f g; g = last s W .g; f = last s W .f }
+    answered = record { outcome = Accepted; word = wordFor s f g; wrong = wrongCount s f g; g = last s W .g; f = last s W .f }
 
     abbrev Cases : Solution → Type 0
-    Cases t = ((t .solvable ≡ false) × Unsolvable s) ⊎ (Answer s f g × (t ≡ answered))
+    Cases t = ((t .outcome ≡ Refused NoAnswer 0) × Unsolvable s) ⊎ (Answer s f g × (t ≡ answered))
 
     few : last s W .solvable ≡ true → wrongCount s f g ≤ boundsOf s .errors → Cases (solutionFor (boundsOf s) (speakingCount s) (jobPoints s) (jobWeights s) (jobValues s))
     few e l =
@@ -108,7 +108,7 @@ module _ (s area : List ℕ) where
     unfolding unsolvedSolution
     many e l =
         inl (
-          ap (λ t. t .solvable) (sym (counted-many (boundsOf s) (jobPoints s) (jobWeights s) (jobValues s) (last s W) (omega (arith, count-means))
+          ap (λ t. t .outcome) (sym (counted-many (boundsOf s) (jobPoints s) (jobWeights s) (jobValues s) (last s W) (omega (arith, count-means))
               ∙ judged-solvable (boundsOf s) (jobPoints s) (jobWeights s) (jobValues s) (last s W) e)),
           unsolvable-late s W e l,
         )
@@ -116,7 +116,7 @@ module _ (s area : List ℕ) where
     none : last s W .solvable ≡ false → Cases (solutionFor (boundsOf s) (speakingCount s) (jobPoints s) (jobWeights s) (jobValues s))
     unfolding unsolvedSolution
     none e =
-        inl (ap (λ t. t .solvable) (sym (judged-unsolvable (boundsOf s) (jobPoints s) (jobWeights s) (jobValues s) (last s W) e)), unsolvable-early s W e)
+        inl (ap (λ t. t .outcome) (sym (judged-unsolvable (boundsOf s) (jobPoints s) (jobWeights s) (jobValues s) (last s W) e)), unsolvable-early s W e)
 
     cases : Cases (solutionFor (boundsOf s) (speakingCount s) (jobPoints s) (jobWeights s) (jobValues s))
     cases = by (last s W .solvable) refl (decLt (boundsOf s .errors) (wrongCount s f g))
@@ -127,20 +127,20 @@ module _ (s area : List ℕ) where
         by true e (no l) = few e (omega arith)
 
     module _ (t : Solution) (e : t ≡ solutionFor (boundsOf s) (speakingCount s) (jobPoints s) (jobWeights s) (jobValues s)) where
-      pub settle-unsolved : t .solvable ≡ false → Settled s area (refusedReport 8 0) area
-      settle-unsolved unsolved = by (subst Cases (sym e) cases)
+      pub settle-unsolved : (t .outcome ≡ Accepted → ⊥) → Settled s area (reportOf (t .outcome)) area
+      settle-unsolved refused = by (subst Cases (sym e) cases)
         where
-          by : Cases t → Settled s area (refusedReport 8 0) area
-          by (inl u) = settled (inr (inr (record { well-formed = wf; none = u .1; report = refl; untouched = refl })))
-          by (inr a) = clash (sym (ap (λ r. r .solvable) (a .1)) ∙ unsolved)
+          by : Cases t → Settled s area (reportOf (t .outcome)) area
+          by (inl u) = settled (inr (inr (record { well-formed = wf; none = u .1; report = ap reportOf (u .0); untouched = refl })))
+          by (inr a) = absurd (refused (ap (λ r. r .outcome) (a .1)))
 
-      pub settle-solved : t .solvable ≡ true → (bytes : ℕ) → bytes ≡ answerLengthOf (boundsOf s) → (after : List ℕ)
+      pub settle-solved : t .outcome ≡ Accepted → (bytes : ℕ) → bytes ≡ answerLengthOf (boundsOf s) → (after : List ℕ)
           → after ≡ overwritten (answerBytes (boundsOf s) (t .word) (t .g .c) (coefficientsAt (t .f))) area
           → Settled s area (recoveredReport bytes (t .wrong)) after
       settle-solved recovered bytes length-is after written = by (subst Cases (sym e) cases)
         where
           by : Cases t → Settled s area (recoveredReport bytes (t .wrong)) after
-          by (inl u) = clash (sym recovered ∙ u .0)
+          by (inl u) = absurd (refused-not-accepted (sym (u .0) ∙ recovered))
           by (inr a) = settled (inr (inl (record {
             well-formed = wf;
             f = f;

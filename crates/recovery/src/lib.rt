@@ -2,7 +2,6 @@
 ghost use Rattle.format.specs.Outcomes.{reportOf};
 ghost use Rattle.recovery.specs.Recovery.{Settled};
 use format::Outcome;
-use format::Reason;
 
 // Demands 1 and 2: any job, any area.
 pub fn recover(job: &[u8], area: &mut [u8]) -> Outcome
@@ -18,12 +17,10 @@ pub fn recover(job: &[u8], area: &mut [u8]) -> Outcome
     let values = parsed.values;
     let weights = parsed.weights;
     let s = solver::solve(b, parsed.speaking, points, weights, values);
-    if !s.solvable {
-        return Outcome::Refused {
-            reason: Reason::NoAnswer,
-            row: 0,
-        };
-    }
+    let outcome = s.outcome;
+    let Outcome::Accepted = outcome else {
+        return outcome;
+    };
     let word = s.word;
     let g = s.g;
     let f = s.f;

@@ -7,6 +7,8 @@ use native.Mathlib.Omega.{arith}
 use lib.ListN.{replicate}
 use borrow.Author.Tests.{lt-ltb, le-ltb}
 use Rattle.format.specs.declared.Bounds.{Bounds}
+use Rattle.format.specs.declared.Reason.the-variants.{NoAnswer}
+use Rattle.format.specs.declared.Outcome.the-variants.{Accepted, Refused}
 use Rattle.format.specs.Bounds.{FitsPolynomials, EnoughRows}
 use Rattle.poly.specs.declared.Poly.{Poly}
 use Rattle.poly.specs.Vectors.{zeroPoly, coefficientsAt}
@@ -29,10 +31,10 @@ pub fits-judge : {b : Bounds} {c : Candidate} → Fitting b c → Within b (coef
 fits-judge h = record { denominator = h .denominator; numerators = λ i l. h .numerators i }
 
 pub unsolved-is : (none : Poly) → none .c ≡ zeroPoly .c
-    → _≡_ {A = Solution} (record { solvable = false; word = 0; wrong = 0; g = none; f = replicate 4 none }) unsolvedSolution
+    → _≡_ {A = Solution} (record { outcome = Refused NoAnswer 0; word = 0; wrong = 0; g = none; f = replicate 4 none }) unsolvedSolution
 unfolding unsolvedSolution
 unsolved-is none e =
-    ap (λ (l : List ℕ). record { solvable = false; word = 0; wrong = 0; g = record { c = l }; f = replicate 4 (record { c = l }) }) e
+    ap (λ (l : List ℕ). record { outcome = Refused NoAnswer 0; word = 0; wrong = 0; g = record { c = l }; f = replicate 4 (record { c = l }) }) e
 
 module _ (b : Bounds) (points weights values : List ℕ) (c : Candidate) where
   pub judged-unsolvable : c .solvable ≡ false → unsolvedSolution ≡ judgedSolution b points weights values c
@@ -49,9 +51,9 @@ module _ (b : Bounds) (points weights values : List ℕ) (c : Candidate) where
   counted-many many = simp (lt-ltb _ _ many)
 
   pub counted-few : {wrong word : ℕ} → word ≡ wordBy b points weights values c → wrong ≡ wrongCountOf word → wrong ≤ b .errors
-      → _≡_ {A = Solution} (record { solvable = true; word = word; wrong = wrong; g = c .g; f = c .f }) (countedSolution b points weights values c)
+      → _≡_ {A = Solution} (record { outcome = Accepted; word = word; wrong = wrong; g = c .g; f = c .f }) (countedSolution b points weights values c)
   unfolding countedSolution
   counted-few {wrong} {word} word-is count-is few =
       let count : wrong ≡ wrongCountOf (wordBy b points weights values c) = count-is ∙ ap wrongCountOf word-is in
       let few' : wrongCountOf (wordBy b points weights values c) ≤ b .errors = omega arith in
-      simp (le-ltb _ _ few') (ap₂ (λ (w n : ℕ). record { solvable = true; word = w; wrong = n; g = c .g; f = c .f }) word-is count)
+      simp (le-ltb _ _ few') (ap₂ (λ (w n : ℕ). record { outcome = Accepted; word = w; wrong = n; g = c .g; f = c .f }) word-is count)

@@ -4,11 +4,14 @@ ghost use Rattle.format.specs.Bounds.{EnoughRows};
 ghost use Rattle.candidate.specs.Candidates.{RowsInRange};
 ghost use Rattle.solver.specs.Solutions.{unsolvedSolution, solutionFor};
 use format::Bounds;
+use format::Outcome;
+use format::Reason;
 use poly::Poly;
 
-// What the solver found: whether there is an answer, and where there is its word of wrong rows, their count, g and the numerators.
+// What the solver found: Accepted if there is an answer, and then its word of wrong rows, their count, g and the numerators; refused with zeros beside it
+// if there is none.
 pub struct Solution {
-    pub solvable: bool,
+    pub outcome: Outcome,
     pub word: u32,
     pub wrong: u32,
     pub g: Poly,
@@ -18,9 +21,13 @@ pub struct Solution {
 fn unsolved() -> Solution
     ensures { λ r. ⌜ r ≡ unsolvedSolution ⌝ }
 {
+    let outcome = Outcome::Refused {
+        reason: Reason::NoAnswer,
+        row: 0,
+    };
     let none = poly::zero();
     Solution {
-        solvable: false,
+        outcome: outcome,
         word: 0,
         wrong: 0,
         g: none,
@@ -50,8 +57,9 @@ pub fn solve(
     if b.errors < wrong as usize {
         return unsolved();
     }
+    let outcome = Outcome::Accepted;
     Solution {
-        solvable: true,
+        outcome: outcome,
         word: word,
         wrong: wrong,
         g: g,

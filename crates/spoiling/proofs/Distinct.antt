@@ -1,9 +1,8 @@
 -- "spoil w different rows": as long as rows are left, each spoiling chooses a row that no earlier one has spoiled.
 use Prim.Native.Nat.{ℕ, zero, suc, _+_, _-_, _*_, _%_, _≤_, _<_}
-use mathlib.Core.Path.{_≡_, refl, sym, ap, ap₂, _∙_}
+use mathlib.Core.Path.{_≡_, refl, sym, ap, _∙_}
 use mathlib.Core.Bool.{Bool, true, false, not}
 use native.Mathlib.Nat.{add-mod-mod, add-mod-right, mod-lt, mod-eq-of-lt}
-use native.Mathlib.Numerals.{add-one}
 use native.Mathlib.Omega.{arith}
 use borrow.Author.Tests.{eqb-true, ne-eqb, not-true, not-false}
 use lib.Dec.{eqb}
@@ -12,21 +11,16 @@ use Rattle.lists.specs.declared.Found.the-variants.{At, Nothing}
 use Rattle.lists.specs.Search.{firstBelow}
 use Rattle.lists.proofs.FirstBelow.{none-passes, found-passes}
 use Rattle.lists.specs.Counting.{oneIf, countBelow}
-use Rattle.lists.proofs.Counting.{count-change}
+use Rattle.lists.proofs.Counting.{count-change, count-all}
 use Rattle.spoiling.specs.Draws.{drawn, topBits}
 use Rattle.spoiling.specs.Spoiling.{numberIn, untakenFrom, chosenRow, amountOf, addedBy, spoiledBy}
 use Rattle.spoiling.proofs.Added.{chosen-row-below, added-chosen, added-other, amount-positive}
 
--- none passes, or all do
+-- none passes
 count-none : (n : ℕ) → countBelow n (λ i. false) ≡ 0
 unfolding countBelow
 count-none zero = refl
 count-none (suc n) = omega (arith, count-none n)
-
-count-full : (n : ℕ) (t : ℕ → Bool) → ((i : ℕ) → i < n → t i ≡ true) → countBelow n t ≡ n
-unfolding countBelow
-count-full zero t all = refl
-count-full (suc n) t all = ap₂ (λ m b. m + oneIf b) (count-full n t (λ i l. all i (omega arith))) (all n (omega arith)) ∙ add-one n
 
 -- from row d every row is reached
 reached : (L d i : ℕ) → d < L → i < L → (d + (i + (L - d)) % L) % L ≡ i
@@ -44,7 +38,7 @@ untaken L taken d h few = by (firstBelow L (λ k. not (taken ((d + k) % L)))) re
     by Nothing e =
         let turned : (i : ℕ) → i < L → taken ((d + (i + (L - d)) % L) % L) ≡ true =
         λ i l. not-false _ (none-passes (λ k. not (taken ((d + k) % L))) L e ((i + (L - d)) % L) (mod-lt _ (omega arith))) in
-        let full = count-full L taken (λ i l. ap taken (sym (reached L d i h l)) ∙ turned i l) in
+        let full = count-all L taken (λ i l. ap taken (sym (reached L d i h l)) ∙ turned i l) in
         absurd (omega arith)
 
 -- the row that a draw chooses was not spoiled before

@@ -1,10 +1,8 @@
 // A text that is being made: bytes, labels and decimal numbers put one behind the other. What does not fit is dropped.
-ghost use Prim.Native.Nat.{ℕ, _<_, _≤_};
+ghost use Prim.Native.Nat.{ℕ, _<_};
 ghost use mathlib.Core.Path.{_≡_};
 ghost use mathlib.Core.List.{[], _∷_};
-ghost use lib.ListN.{length};
-ghost use Rattle.lists.specs.Overwriting.{overwritten};
-ghost use Rattle.text.specs.Drafts.{textRoom, held, extended, Spells};
+ghost use Rattle.text.specs.Drafts.{held, extended, Spells};
 ghost use Rattle.text.specs.Decimal.{digitsWithin, itemOf};
 
 // Every text has fewer bytes.
@@ -66,16 +64,4 @@ pub fn put_item(draft: Draft, value: u32) -> Draft
     ensures { λ r. ⌜ held r ≡ extended draft (itemOf value) ⌝ }
 {
     put_decimal(put_byte(draft, 32), value)
-}
-
-// Copies the text to the buffer's start and returns how many bytes it wrote.
-pub fn copy_out(draft: Draft, buffer: &mut [u8]) -> usize
-    requires { ⌜ (draft .count ≤ textRoom) × (draft .count ≤ length (now buffer)) ⌝ }
-    ensures { λ r. ⌜ (r ≡ draft .count) × (now (buffer .exit) ≡ overwritten (held draft) (now (buffer .entry))) ⌝ }
-{
-    let count = draft.count;
-    for k in 0..count {
-        buffer[k] = draft.bytes[k];
-    }
-    count
 }

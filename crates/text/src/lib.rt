@@ -10,7 +10,6 @@ ghost use Rattle.format.specs.Bounds.{FitsPolynomials};
 ghost use Rattle.text.specs.Drafts.{textRoom, Spells};
 ghost use Rattle.text.specs.Text.{fitsOf, recoveredText, refusedText, textOf, writtenOf, bufferAfter};
 use draft::Draft;
-use draft::copy_out;
 use draft::empty;
 use draft::put_byte;
 use draft::put_decimal;
@@ -104,5 +103,6 @@ pub fn write_text(
     if buffer.len() < count {
         return Written::TooShort;
     }
-    Written::Bytes(copy_out(text, buffer))
+    let bytes = text.bytes;
+    Written::Bytes(answer::put_bytes(buffer, &bytes[..count]))
 }

@@ -2,7 +2,7 @@
 use mathlib.Core.Bool.{Bool, true, false}
 use mathlib.Core.List.{List}
 use mathlib.Core.Logic.{_⊎_, inl, inr}
-use mathlib.Core.Path.{_≡_, refl, sym, ap, ap₂, _∙_}
+use mathlib.Core.Path.{_≡_, refl, sym, ap, _∙_}
 use Prim.Native.Nat.{ℕ, _≤_}
 use native.Mathlib.Omega.{arith}
 use borrow.Author.Tests.{ltb-false}
@@ -11,10 +11,10 @@ use Rattle.format.specs.declared.Reason.{Reason}
 use Rattle.format.specs.declared.Reason.the-variants.{AreaTooShort, NotReduced}
 use Rattle.format.specs.declared.Outcome.the-variants.{Accepted, Refused}
 use Rattle.format.specs.declared.Writing.{Writing}
-use Rattle.format.specs.declared.Writing.the-variants as writing
 use Rattle.format.specs.declared.WritingReport.{WritingReport}
 use Rattle.format.specs.Outcomes.{refusalNumber, refusedWriting, writtenReport, writingReportOf}
-use Rattle.format.proofs.Numbers.{number-positive, number-injective}
+use Rattle.format.proofs.Numbers.{number-positive}
+use Rattle.format.proofs.Reports.{writing-injective}
 use Rattle.header.specs.Header.{headerOf, jobLengthOf}
 use Rattle.lists.specs.Overwriting.{overwritten}
 use Rattle.trial.specs.Refusals.{jobAreaTooShort, outcomeBefore10, trialOutcome}
@@ -106,8 +106,6 @@ trial-unique h c start w area {r} {r'} {after} {after'} T T' = by (accepted-or-r
     by (inr e) = from (refused-whatever h c w (e .2) _ ∙ sym (refused-whatever h c w (e .2) _))
 
 -- and so is the enum that `trial` returns
-pub writing-unique : (v v' : Writing) → writingReportOf v ≡ writingReportOf v' → v ≡ v'
-writing-unique (writing.Written n) (writing.Written n') e = ap writing.Written (ap (λ t. t .written) e)
-writing-unique (writing.Refused q k) (writing.Refused q' k') e = ap₂ writing.Refused (number-injective q q' (ap (λ t. t .refusal) e)) (ap (λ t. t .row) e)
-writing-unique (writing.Written n) (writing.Refused q k) e = absurd (let z = ap (λ t. t .refusal) e in let l = number-positive q in omega arith)
-writing-unique (writing.Refused q k) (writing.Written n) e = absurd (let z = ap (λ t. t .refusal) e in let l = number-positive q in omega arith)
+pub writing-unique : (h c : List ℕ) (start w : ℕ) (area : List ℕ) {v v' : Writing} {after after' : List ℕ}
+    → Trial h c start w area (writingReportOf v) after → Trial h c start w area (writingReportOf v') after' → v ≡ v'
+writing-unique h c start w area {v} {v'} T T' = writing-injective v v' (trial-unique h c start w area T T' .0)

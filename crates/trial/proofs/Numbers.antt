@@ -48,12 +48,12 @@ pub row-below : (L m k : ℕ) → 0 < m → k < L * m → k / m < L
 row-below L m k positive l = div-lt-iff-lt-mul positive .1 l
 
 -- one number more is written
-pub next-number : (numbers : ℕ → ℕ) (count start k next number : ℕ) (old area more : List ℕ) → k < count → number ≡ numbers k → next ≡ start + 2 * k → next ≤ length old
-    → area ≡ spliced start (coefficientBytes (tabulate count numbers) k) old → more ≡ spliced next (twoBytes number) area
+pub next-number : (numbers : ℕ → ℕ) (count start k written number : ℕ) (old area more : List ℕ) → k < count → number ≡ numbers k → written ≡ 2 * k
+    → start + written ≤ length old → area ≡ spliced start (coefficientBytes (tabulate count numbers) k) old → more ≡ spliced (start + written) (twoBytes number) area
     → more ≡ spliced start (coefficientBytes (tabulate count numbers) (k + 1)) old
-next-number numbers count start k next number old area more l is place fits written added =
-    added ∙ ap (λ v. spliced next (twoBytes v) area) (is ∙ sym (at-tabulate count numbers k l))
-    ∙ next-coefficient start (tabulate count numbers) k next old area place fits written
+next-number numbers count start k written number old area more l is size fits before added =
+    added ∙ ap (λ v. spliced (start + written) (twoBytes v) area) (is ∙ sym (at-tabulate count numbers k l))
+    ∙ next-coefficient start (tabulate count numbers) k written old area size fits before
 
 -- the numbers of n outputs depend on their n numerators
 module _ (p : ℕ) (f f' : ℕ → List ℕ) (g : List ℕ) (added : ℕ → ℕ) where

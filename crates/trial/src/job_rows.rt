@@ -60,7 +60,7 @@ fn number_at(q: Prime, g: Poly, f: [Poly; 4], by: &[u32; 32], r: usize, column: 
     y
 }
 
-// Writes the rows behind a header, from the byte called start on, and returns the place behind them.
+// Writes the rows behind a header, from the byte called start on, and returns how many bytes they have.
 pub fn put_rows(
     area: &mut [u8],
     start: usize,
@@ -71,16 +71,16 @@ pub fn put_rows(
 ) -> usize
     requires { ⌜ FitsFields b × (start + 2 * (b .rows * (1 + b .outputs)) ≤ length (now area)) × Bounded (primeOf b) 32 (g .c)
         × ((i : ℕ) → i < b .outputs → Bounded (primeOf b) 32 (coefficientsAt f i)) × ((r : ℕ) → getD (now by) r 0 < primeOf b) ⌝ }
-    ensures { λ r. ⌜ (r ≡ start + 2 * (b .rows * (1 + b .outputs)))
+    ensures { λ r. ⌜ (r ≡ 2 * (b .rows * (1 + b .outputs)))
         × (now (area .exit) ≡ spliced start (coefficientBytes (trialNumbers (primeOf b) (coefficientsAt f) (g .c) (λ i. getD (now (by .entry)) i 0) (b .rows) (b .outputs)) (b .rows * (1 + b .outputs))) (now (area .entry))) ⌝ }
 {
     let prime = b.prime;
     let width = 1 + b.outputs;
     let count = b.rows * width;
-    let mut next = start;
+    let mut written = 0;
     for k in 0..count {
         let number = number_at(prime, g, f, by, k / width, k % width);
-        next = answer::put_number(area, next, number);
+        written += answer::put_number(area, start + written, number);
     }
-    next
+    written
 }

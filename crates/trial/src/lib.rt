@@ -101,17 +101,6 @@ fn reduced(b: Bounds, v: Vector) -> bool
     is_reduced(prime, n, g, f)
 }
 
-// The header's bytes at the area's start.
-fn put_header(area: &mut [u8], header: &[u8])
-    requires { ⌜ length (now header) ≤ length (now area) ⌝ }
-    ensures { λ _. ⌜ now (area .exit) ≡ overwritten (now (header .entry)) (now (area .entry)) ⌝ }
-{
-    let count = header.len();
-    for k in 0..count {
-        area[k] = header[k];
-    }
-}
-
 // Writes the job of a vector and returns how many bytes it wrote.
 fn put_job(area: &mut [u8], header: &[u8], b: Bounds, v: Vector, start: u32, spoiled: u32) -> usize
     requires { ⌜ FitsFields b × (0 < b .rows) × (length (now header) + 2 * b .rows * (1 + b .outputs) ≤ length (now area)) × Bounded (primeOf b) 32 (v .g .c)
@@ -119,14 +108,14 @@ fn put_job(area: &mut [u8], header: &[u8], b: Bounds, v: Vector, start: u32, spo
     ensures { λ r. ⌜ (r ≡ length (now (header .entry)) + 2 * b .rows * (1 + b .outputs))
         × (now (area .exit) ≡ overwritten (jobBytes b (now (header .entry)) (coefficientsAt (v .f)) (v .g .c) (addedBy (primeOf b) (b .rows) start spoiled)) (now (area .entry))) ⌝ }
 {
-    put_header(area, header);
+    let front = answer::put_bytes(area, header);
     let prime = b.prime;
     let rows = b.rows;
     let g = v.g;
     let f = v.f;
     let additions = spoiling::spoilings(prime, rows, start, spoiled as usize);
     let by = additions.by;
-    job_rows::put_rows(area, header.len(), b, g, f, &by)
+    front + job_rows::put_rows(area, front, b, g, f, &by)
 }
 
 // Any header, coefficients, start and number of rows, any area: the caller owes nothing.

@@ -1,6 +1,8 @@
 //! Streams of jobs of which some are damaged, with what is to be said of each.
 
-use super::support::longer::{break_rules, has_longer_header, lengthened, shortened, Added};
+use super::support::own_bounds::{
+    break_rules, has_own_bounds, with_one_bound, with_own_bounds, Added,
+};
 use outside_checks::jobs::form::{most_rows, raise_bound, set_number, silence, sound_job, Order};
 use outside_checks::jobs::Random;
 use outside_checks::layout::{HeaderForm, Job};
@@ -99,8 +101,8 @@ fn damaged(random: &mut Random) -> (Vec<u8>, String) {
         }
     }
     let bytes = job.pack();
-    let (short, mut added) = match has_longer_header(&bytes) {
-        true => (shortened(&bytes), Added::of(&bytes)),
+    let (short, mut added) = match has_own_bounds(&bytes) {
+        true => (with_one_bound(&bytes), Added::of(&bytes)),
         false if random.once_in(2) => return (bytes, said),
         false => {
             let added = Added::drawn(random, &bytes);
@@ -111,7 +113,7 @@ fn damaged(random: &mut Random) -> (Vec<u8>, String) {
         let words = break_rules(random, &short, &mut added);
         said = format!("refused 11: {words}");
     }
-    (lengthened(&short, &added), said)
+    (with_own_bounds(&short, &added), said)
 }
 
 /// All their bytes, back to back.

@@ -1,11 +1,13 @@
 //! Runs the command from the repository's root.
 #![allow(dead_code)] // Each test file has a copy of its own and uses a part.
 
-pub mod longer;
+pub mod own_bounds;
 
-use longer::{break_rules, has_longer_header, header_length, lengthened, shortened, Added};
 use outside_checks::jobs::{generate, Random};
 use outside_checks::layout;
+use own_bounds::{
+    break_rules, has_own_bounds, header_length, with_one_bound, with_own_bounds, Added,
+};
 use std::fs;
 use std::io::Write;
 use std::path::{Path, PathBuf};
@@ -115,10 +117,7 @@ pub fn run_redirected(words: &str, redirection: &str) -> Run {
 
 /// An empty folder of a test's own.
 pub fn folder(name: &str) -> PathBuf {
-    let folder = Path::new(env!("CARGO_TARGET_TMPDIR")).join(name);
-    let _ = fs::remove_dir_all(&folder);
-    fs::create_dir_all(&folder).expect("a folder");
-    folder
+    outside_checks::empty_folder(env!("CARGO_TARGET_TMPDIR"), name)
 }
 
 /// A file in it.
@@ -163,16 +162,16 @@ fn stream_job(seed: u64, index: u64) -> Option<Vec<u8>> {
     if random.once_in(2) {
         return Some(job);
     }
-    if has_longer_header(&job) {
+    if has_own_bounds(&job) {
         // Without the flag a mark would be a number.
         return Some(match layout::Job::unpack(&job).has_marks() {
             true => job,
-            false => shortened(&job),
+            false => with_one_bound(&job),
         });
     }
     let mut added = Added::equal(&job);
     if random.once_in(8) {
         break_rules(&mut random, &job, &mut added);
     }
-    Some(lengthened(&job, &added))
+    Some(with_own_bounds(&job, &added))
 }

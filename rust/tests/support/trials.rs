@@ -1,7 +1,7 @@
 //! Trials by this crate's types, from calls of the outside checks.
 #![allow(dead_code)] // Each test file has a copy of its own and uses a part.
 
-use super::longer::Added;
+use super::own_bounds::Added;
 use hanthuvelo::{trimmed, Bounds, Header, NumeratorBounds, Trial};
 use outside_checks::jobs::trial::TrialCall;
 use outside_checks::jobs::Random;

@@ -1,8 +1,8 @@
 //! Pairs of jobs for the enlargement rule of paper 01, with item 6 of paper 02: the larger one holds every row of the
 //! smaller one that speaks, in another order, with further rows, bounds of its own, and any header.
 
-use super::marked::Marks;
 use super::planted::{free_point, planted, Planted, Shape, WrongRows};
+use super::planted_marks::Marks;
 use super::random::Random;
 use crate::layout::{value_at, wrong_rows, HeaderForm, Job, Mark, Row, MOST_ROWS};
 use crate::second::Field;
@@ -39,8 +39,8 @@ pub fn generate(seed: u64, index: u64) -> Pair {
         true => HeaderForm::Flagged,
         false => random.one_of(&[
             HeaderForm::Short,
-            HeaderForm::Longer,
-            HeaderForm::Longer,
+            HeaderForm::OwnBounds,
+            HeaderForm::OwnBounds,
             HeaderForm::Flagged,
         ]),
     };
@@ -153,7 +153,7 @@ fn draw_bounds(random: &mut Random, planted: &Planted, larger: &mut Job) {
     let df = numerator_degree + part;
     larger.denominator_bound = denominator_degree + sum - part;
     larger.numerator_bounds.fill(df);
-    if larger.header.is_longer() {
+    if larger.header.has_own_bounds() {
         let bounds = degrees.into_iter().map(|degree| {
             let any = random.between(degree, df);
             random.one_of(&[any, any, degree, df])

@@ -74,7 +74,7 @@ impl FalseMark {
             (FalseMark::Mixed, _) => Kind::MixedMarks,
             (FalseMark::WithoutFlag, HeaderForm::Short) => Kind::MarkUnderShortHeader,
             (FalseMark::WithoutFlag, _) => Kind::MarkWithoutFlag,
-            (FalseMark::OfPoint, _) => Kind::MarkedPoint,
+            (FalseMark::OfPoint, _) => Kind::PointWithMark,
         }
     }
 

@@ -35,7 +35,7 @@ pub fn raise_bound(random: &mut Random, job: &mut Job) {
     let df = random.between(least, 31);
     let raised = match job.header {
         HeaderForm::Short => &mut job.numerator_bounds[..],
-        HeaderForm::Longer | HeaderForm::Flagged => {
+        HeaderForm::OwnBounds | HeaderForm::Flagged => {
             let output = random.below(job.outputs());
             &mut job.numerator_bounds[output..=output]
         }

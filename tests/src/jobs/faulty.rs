@@ -1,10 +1,10 @@
 //! Jobs with faults: made to be refused with a given number, damaged, or random.
 
-use super::added::Broken;
+use super::broken_header::Broken;
 use super::faults::{change_length, large_number, raise_bound, take_rows};
 use super::form::set_number;
-use super::marked::Marks;
 use super::planted::{draw_header, planted, Shape, WrongRows};
+use super::planted_marks::Marks;
 use super::{false_marks, new_job, Expected, GeneratedJob, Kind, Random};
 use crate::layout::{HeaderForm, Job, Mark, Row};
 
@@ -243,7 +243,7 @@ pub fn random_values(random: &mut Random) -> GeneratedJob {
 pub fn damaged(random: &mut Random) -> GeneratedJob {
     let job = sound_job(random);
     let mut bytes = job.pack();
-    let of_header = job.header.is_longer() && random.once_in(2);
+    let of_header = job.header.has_own_bounds() && random.once_in(2);
     for _ in 0..random.between(1, 3) {
         let place = match of_header {
             true => random.between(3, 6),

@@ -7,7 +7,7 @@ mod repeated;
 mod sound;
 mod tally;
 
-use super::added::Broken;
+use super::broken_header::Broken;
 use super::false_marks::FalseMark;
 pub use super::faults::{raise_bound, silence};
 use super::random::Random;
@@ -18,7 +18,7 @@ pub use large::set_number;
 use large::Large;
 pub use repeated::rising_rows;
 use repeated::Repeated;
-pub use sound::{most_rows, sound_job, unmarked_job, Order};
+pub use sound::{job_without_marks, most_rows, sound_job, Order};
 use sound::{sound_size, Turn};
 pub use tally::Tally;
 

@@ -1,7 +1,7 @@
 //! Random reduced fractions within a job's bounds.
 
-use super::marked::Marks;
 use super::planted::Shape;
+use super::planted_marks::Marks;
 use super::random::Random;
 use crate::layout::Job;
 use crate::second::polynomial::Polynomial;

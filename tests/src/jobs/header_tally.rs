@@ -1,6 +1,6 @@
 //! Counts of what a run has of the headers, with their floors.
 
-use super::added::{Breach, Broken};
+use super::broken_header::{Breach, Broken};
 use super::tally::{least, Counts};
 use crate::layout::{HeaderForm, Job, LONGEST_JOB};
 
@@ -15,9 +15,9 @@ const FEW_FLOORS: [(&str, usize); 5] = [
 
 /// Floors out of a thousand of those that are sound.
 const SOUND_FLOORS: [(&str, usize); 8] = [
-    ("longer header, the flag", 200),
-    ("longer header, equal bounds", 200),
-    ("longer header, bounds that differ", 150),
+    ("own bounds, the flag", 200),
+    ("own bounds, all equal", 200),
+    ("own bounds that differ", 150),
     ("largest bound at f1 alone", 40),
     ("largest bound at f2 alone", 40),
     ("largest bound at f3 alone", 20),
@@ -28,7 +28,7 @@ const SOUND_FLOORS: [(&str, usize); 8] = [
 #[derive(Default)]
 pub struct HeaderTally {
     all: usize,
-    longer: usize,
+    own_bounds: usize,
     sound: usize,
     counts: Counts,
 }
@@ -46,7 +46,7 @@ impl HeaderTally {
         if bytes.len() < 3 || HeaderForm::of(bytes) == HeaderForm::Short {
             return;
         }
-        self.longer += 1;
+        self.own_bounds += 1;
         let few_bytes = format!("spare bit 1 and {} bytes", bytes.len());
         self.counts.add(&few_bytes, bytes.len() < 7);
     }
@@ -59,9 +59,9 @@ impl HeaderTally {
         }
         let counts = &mut self.counts;
         let (is_equal, is_flagged) = (job.has_equal_bounds(), job.header == HeaderForm::Flagged);
-        counts.add("longer header, the flag", is_flagged);
-        counts.add("longer header, equal bounds", is_equal);
-        counts.add("longer header, bounds that differ", !is_equal);
+        counts.add("own bounds, the flag", is_flagged);
+        counts.add("own bounds, all equal", is_equal);
+        counts.add("own bounds that differ", !is_equal);
         counts.add("jobs of 317 bytes", job.pack().len() == LONGEST_JOB);
         let df = job.numerator_bound();
         let largest: Vec<usize> = (0..job.outputs())
@@ -75,7 +75,7 @@ impl HeaderTally {
 
     /// All counts with their floors; of the ways to break the added header, those with each of these other faults.
     pub fn lines(&self, others: &[u32]) -> Vec<(String, usize, usize)> {
-        let longer = "with the longer header".to_string();
+        let name = "with a bound for each output".to_string();
         let few = FEW_FLOORS.into_iter().map(|line| (line, self.all));
         let sound = SOUND_FLOORS.into_iter().map(|line| (line, self.sound));
         let named = few.chain(sound).map(|((name, thousandths), whole)| {
@@ -87,7 +87,7 @@ impl HeaderTally {
             let name = format!("each broken rule, {}", besides(other));
             (name, least(&counts), self.all / 5000)
         });
-        let share = (longer, self.longer, self.all / 2 + 1);
+        let share = (name, self.own_bounds, self.all / 2 + 1);
         std::iter::once(share).chain(named).chain(broken).collect()
     }
 }

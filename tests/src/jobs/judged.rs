@@ -9,7 +9,7 @@ mod right;
 mod tally;
 mod too_many;
 
-use super::added::Broken;
+use super::broken_header::Broken;
 use super::planted::Planted;
 use super::random::Random;
 use super::{faulty, planned};

@@ -1,7 +1,7 @@
 //! Jobs that would have an answer if the largest bound were that of every output, and have none.
 
-use super::marked::Marks;
 use super::planted::{planted, Planted, Shape, WrongRows};
+use super::planted_marks::Marks;
 use super::random::Random;
 use crate::layout::{HeaderForm, Job};
 
@@ -34,7 +34,7 @@ pub fn beyond_own_bound(random: &mut Random) -> Planted {
         let degree = degree(output);
         let any = random.below(degree);
         if planted.job.header == HeaderForm::Short {
-            planted.job.header = HeaderForm::Longer;
+            planted.job.header = HeaderForm::OwnBounds;
         }
         planted.job.numerator_bounds[output] = random.one_of(&[degree - 1, degree - 1, any]);
         return planted;

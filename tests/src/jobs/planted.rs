@@ -1,7 +1,7 @@
 //! Jobs made from a known reduced answer, with a known number of wrong rows.
 
 use super::fraction::{numerators_within, Fraction};
-use super::marked::Marks;
+use super::planted_marks::Marks;
 use super::random::Random;
 use crate::layout::{has_pole, wrong_rows, HeaderForm, Job, Mark, Row, MOST_ROWS, PRIMES};
 use crate::second::polynomial::Polynomial;
@@ -197,7 +197,7 @@ pub fn draw_header(random: &mut Random, job: &mut Job, least: usize) {
     if random.once_in(3) {
         return;
     }
-    job.header = random.one_of(&[HeaderForm::Longer, HeaderForm::Flagged]);
+    job.header = random.one_of(&[HeaderForm::OwnBounds, HeaderForm::Flagged]);
     let (df, largest) = (job.numerator_bound(), random.below(job.outputs()));
     let highest = match random.below(5) {
         0 => return,

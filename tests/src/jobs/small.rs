@@ -32,7 +32,7 @@ fn random_values(random: &mut Random) -> Job {
         values: (0..outputs).map(|_| random.residue(7)).collect(),
     });
     Job {
-        header: HeaderForm::Longer,
+        header: HeaderForm::OwnBounds,
         prime_code: 0,
         numerator_bounds,
         denominator_bound: dg,
@@ -66,7 +66,7 @@ pub fn small_job(random: &mut Random) -> Job {
 
 /// The same with marks: rows at roots of the denominator report them, mostly, and others at times; rows to spare are silent at
 /// times.
-pub fn small_marked_job(random: &mut Random) -> Job {
+pub fn small_job_with_marks(random: &mut Random) -> Job {
     let mut job = random_values(random);
     job.header = HeaderForm::Flagged;
     let mut draw = |bound: usize| (0..=bound).map(|_| random.residue(7)).collect::<Vec<u32>>();

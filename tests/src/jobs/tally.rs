@@ -2,7 +2,7 @@
 
 use super::header_tally::HeaderTally;
 use super::mark_tally::MarkTally;
-use super::marked::Marks;
+use super::planted_marks::Marks;
 use super::{Expected, GeneratedJob, OTHER_FAULTS};
 use crate::layout::{trimmed, Answer, Job, MOST_ROWS, PRIMES};
 use hanthuvelo::Report;
@@ -30,16 +30,16 @@ pub enum Kind {
     DamagedAddedHeader,
     RandomBytes,
     BeyondOwnBound,
-    MarkedPoles,
-    MarkedOwnPoles,
-    MarkedPolesAboveErrors,
-    MarkedSilent,
-    MarkedPolesAndSilent,
+    ReportedPoles,
+    ReportedOwnPoles,
+    ReportedPolesAboveErrors,
+    SilentRows,
+    ReportedPolesAndSilentRows,
     PartlyMarked,
     MixedMarks,
     MarkUnderShortHeader,
     MarkWithoutFlag,
-    MarkedPoint,
+    PointWithMark,
     Refused12,
     Refused12And6,
     Refused12And7,
@@ -56,11 +56,11 @@ pub enum Kind {
 impl Kind {
     pub fn of_marks(marks: Marks) -> Kind {
         match marks {
-            Marks::Poles => Kind::MarkedPoles,
-            Marks::OwnPoles => Kind::MarkedOwnPoles,
-            Marks::PolesAboveErrors => Kind::MarkedPolesAboveErrors,
-            Marks::Silent => Kind::MarkedSilent,
-            Marks::PolesAndSilent => Kind::MarkedPolesAndSilent,
+            Marks::Poles => Kind::ReportedPoles,
+            Marks::OwnPoles => Kind::ReportedOwnPoles,
+            Marks::PolesAboveErrors => Kind::ReportedPolesAboveErrors,
+            Marks::Silent => Kind::SilentRows,
+            Marks::PolesAndSilent => Kind::ReportedPolesAndSilentRows,
         }
     }
 }
@@ -86,16 +86,16 @@ const KIND_FLOORS: [(Kind, usize); 39] = [
     (Kind::DamagedAddedHeader, 4),
     (Kind::RandomBytes, 10),
     (Kind::BeyondOwnBound, 20),
-    (Kind::MarkedPoles, 40),
-    (Kind::MarkedOwnPoles, 50),
-    (Kind::MarkedPolesAboveErrors, 30),
-    (Kind::MarkedSilent, 30),
-    (Kind::MarkedPolesAndSilent, 50),
+    (Kind::ReportedPoles, 40),
+    (Kind::ReportedOwnPoles, 50),
+    (Kind::ReportedPolesAboveErrors, 30),
+    (Kind::SilentRows, 30),
+    (Kind::ReportedPolesAndSilentRows, 50),
     (Kind::PartlyMarked, 7),
     (Kind::MixedMarks, 7),
     (Kind::MarkUnderShortHeader, 2),
     (Kind::MarkWithoutFlag, 2),
-    (Kind::MarkedPoint, 7),
+    (Kind::PointWithMark, 7),
     (Kind::Refused12, 20),
     (Kind::Refused12And6, 5),
     (Kind::Refused12And7, 5),
@@ -226,7 +226,7 @@ impl Tally {
 fn has_loose_bound(job: &Job, answer: &[u8]) -> bool {
     let numerators = Answer::unpack(answer, job).numerators;
     let mut lists = numerators.iter();
-    job.header.is_longer() && lists.any(|list| trimmed(list).len() < list.len())
+    job.header.has_own_bounds() && lists.any(|list| trimmed(list).len() < list.len())
 }
 
 /// What became of a job, by the number of its refusal; with 0 what is said here.
@@ -249,12 +249,27 @@ pub struct Counts(BTreeMap<String, usize>);
 impl Counts {
     pub fn add(&mut self, name: &str, applies: bool) {
         if applies {
-            *self.0.entry(name.to_string()).or_default() += 1;
+            self.add_number(name, 1);
         }
+    }
+
+    /// Adds so many at once.
+    pub fn add_number(&mut self, name: &str, number: usize) {
+        *self.0.entry(name.to_string()).or_default() += number;
     }
 
     pub fn of(&self, name: &str) -> usize {
         self.0.get(name).copied().unwrap_or(0)
+    }
+
+    /// All counts as text, each with its floor, and whether it reaches it. What was counted has a floor.
+    pub fn against(&self, floors: &[(&str, usize)]) -> (String, bool) {
+        for name in self.0.keys() {
+            let has_floor = floors.iter().any(|(known, _)| known == name);
+            assert!(has_floor, "`{name}` was counted and has no floor");
+        }
+        let line = |&(name, floor): &(&str, usize)| (name.to_string(), self.of(name), floor);
+        with_floors(floors.iter().map(line))
     }
 }
 
@@ -272,4 +287,32 @@ pub fn with_floors(lines: impl Iterator<Item = (String, usize, usize)>) -> (Stri
         text += &format!("{name:<38}{count:>8}  floor {floor:>6}{mark}\n");
     }
     (text, enough)
+}
+
+#[cfg(test)]
+mod tests {
+    use super::Counts;
+
+    fn counts() -> Counts {
+        let mut counts = Counts::default();
+        counts.add("rows", true);
+        counts.add("rows", false);
+        counts.add_number("rows", 2);
+        counts
+    }
+
+    #[test]
+    fn a_count_reaches_its_floor_or_not() {
+        let counts = counts();
+        assert!(counts.against(&[("rows", 3)]).1);
+        let (text, enough) = counts.against(&[("rows", 4)]);
+        assert!(!enough && text.contains("BELOW"), "{text}");
+        assert!(!counts.against(&[("rows", 3), ("columns", 1)]).1);
+    }
+
+    #[test]
+    #[should_panic(expected = "`rows` was counted and has no floor")]
+    fn a_count_has_a_floor() {
+        counts().against(&[("columns", 0)]);
+    }
 }

@@ -4,7 +4,7 @@
 mod fault;
 mod tally;
 
-use super::added::Broken;
+use super::broken_header::Broken;
 use super::fraction::Fraction;
 use super::planned;
 use super::planted::{header, Shape, WrongRows};

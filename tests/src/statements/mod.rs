@@ -23,7 +23,7 @@ pub const ROOTS: [(&str, &str); 20] = [
     ("capi", "hanthuvelo_trial"),
     ("reciprocal", "reciprocal"),
     ("capi", "hanthuvelo_reciprocal"),
-    ("offered_answer", "judge_answer"),
+    ("offered_answer", "judge"),
     ("judged_recovery", "recover_and_judge"),
     ("capi", "hanthuvelo_judge"),
     ("form_check", "check"),
@@ -31,10 +31,10 @@ pub const ROOTS: [(&str, &str); 20] = [
     ("capi", "hanthuvelo_check"),
     ("either_header", "recover_either"),
     ("margin", "margin"),
-    ("recovered_margin", "recover_with_margin"),
+    ("margin", "recover_with_margin"),
     ("capi", "hanthuvelo_margin"),
-    ("row_word", "word_from"),
-    ("row_word", "part"),
+    ("read_u64", "read_u64"),
+    ("read_u64", "part"),
 ];
 
 /// Where the page stands in the repository.

@@ -1,3 +1,4 @@
+-- After k coefficients 2 k bytes are written, behind each other from the place on.
 use Prim.Native.Nat.{_+_, _-_, _*_, _≤_}
 use mathlib.Core.Path.{_≡_, refl, sym, ap, _∙_}
 use native.Mathlib.Omega.{arith}
@@ -11,11 +12,11 @@ use Rattle.answer.proofs.put_coefficients.Statement.{statement}
 use Rattle.answer.proofs.put_coefficients.Tie as tie
 
 abbrev Inv-loop : tie.InvT-loop
-Inv-loop area₀ at count a next₀ k₀ area next k =
-    (k ≤ count) × (length area ≡ length area₀) × (next ≡ at + 2 * k) × (area ≡ spliced at (coefficientBytes (a .c) k) area₀)
+Inv-loop area₀ at count a written₀ k₀ area written k =
+    (k ≤ count) × (length area ≡ length area₀) × (written ≡ 2 * k) × (area ≡ spliced at (coefficientBytes (a .c) k) area₀)
 
 abbrev μ-loop : tie.MeasureT-loop
-μ-loop area₀ at count a next₀ k₀ area next k = count - k
+μ-loop area₀ at count a written₀ k₀ area written k = count - k
 
 loop-holds : tie.Need-loop-holds Inv-loop μ-loop
 unfolding coefficientBytes
@@ -26,11 +27,11 @@ loop-again c =
     let s = c .before .before .before .before .before .before in
     let g = s .before .before .args in
     let r = c .before .before .put-number in
-    let room : s .loop .next ≤ length (g .area .now) = omega arith in (
+    let room : g .at + s .loop .written ≤ length (g .area .now) = omega arith in (
       omega arith,
       r .kept .0 ∙ s .loop .inv .1,
       omega (arith, r .ensures .0),
-      r .ensures .1 ∙ next-coefficient (g .at) (g .t3 .c) (s .loop .k) (s .loop .next) (g .area .now) (s .loop .area) (s .loop .inv .2) room (s .loop .inv .3),
+      r .ensures .1 ∙ next-coefficient (g .at) (g .t3 .c) (s .loop .k) (s .loop .written) (g .area .now) (s .loop .area) (s .loop .inv .2) room (s .loop .inv .3),
     )
 
 same-length : tie.Need-same-length Inv-loop μ-loop
@@ -52,7 +53,9 @@ put-coefficients-spec =
     loop-holds
     (λ c. omega arith)
     (λ c. omega arith)
+    (λ c. omega arith)
     (λ c κs. omega arith)
+    (λ c. omega arith)
     (λ c. omega arith)
     (λ c. omega arith)
     loop-again

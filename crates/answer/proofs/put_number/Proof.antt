@@ -1,3 +1,4 @@
+-- Two stores are the two bytes between what stands before and behind them (`sets-eq`).
 use mathlib.Core.Path.{refl}
 use native.Mathlib.Numerals.{add-one}
 use native.Mathlib.Omega.{arith}
@@ -23,6 +24,5 @@ put-number-spec =
     (λ c. search needs)
     (λ c. search needs)
     slice-write-area-2
-    (λ c. search needs)
     (λ c. search needs)
     returns)

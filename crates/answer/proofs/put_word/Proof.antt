@@ -1,3 +1,4 @@
+-- Four stores from place 0 on are the four bytes in front of what lies behind (`sets-eq`).
 use mathlib.Core.Path.{refl}
 use native.Mathlib.Omega.{arith}
 use lib.ListN.{length-set}

@@ -1,10 +1,9 @@
-use Prim.Native.Nat.{_+_}
-use mathlib.Core.Path.{ap, _∙_}
+-- The word, g and the outputs, each behind what was written before it.
+use Prim.Native.Nat.{_+_, _*_}
+use mathlib.Core.Path.{_≡_}
 use native.Mathlib.Omega.{arith}
-use lib.ListN.{length}
 use borrow.Author.Needs.{needs}
 use Rattle.poly.specs.Vectors.{coefficientsAt}
-use Rattle.answer.specs.Bytes.{outputBytes}
 use Rattle.answer.proofs.Lengths.{answer-end}
 use Rattle.answer.proofs.Runs.{whole-answer}
 use Rattle.answer.proofs.write.Statement.{statement}
@@ -16,6 +15,11 @@ put-outputs-requires c κs =
     let start = run .before .before .before .before .before .before .before in
     (start .pre .0, omega (arith, answer-end (start .args .b) (coefficientsAt (start .args .f))))
 
+add-result : tie.Need-add-result
+add-result c =
+    let start = c .before .before .before .before .before .before .before .before .before .before .before .before .before in
+    omega (arith, answer-end (start .args .b) (coefficientsAt (start .args .f)))
+
 returns : tie.Need-returns
 returns c =
     let outputs = c .before .before .put-outputs in
@@ -25,10 +29,10 @@ returns c =
     let g = start .args in
     let f = coefficientsAt (g .f) in
     let four = head .put-word .ensures .0 in
-    let place = rw four at (run .put-coefficients .ensures .0) in (
-      outputs .ensures .0 ∙ ap (λ next. next + length (outputBytes (g .b) f (g .b .outputs))) place ∙ answer-end (g .b) f,
+    let place : head .put-word .result + run .put-coefficients .result ≡ 4 + 2 * (g .b .dg + 1) = omega arith in (
+      omega (arith, answer-end (g .b) f),
       whole-answer (g .b) (g .word) (g .g .c) f (g .area .now) (head .put-word .last .0) (run .put-coefficients .last .0) (outputs .last .0)
-          (run .put-coefficients .result) (start .pre .1) (head .put-word .ensures .1) (rw four at (run .put-coefficients .ensures .1)) place (outputs .ensures .1),
+          _ (start .pre .1) (head .put-word .ensures .1) (rw four at (run .put-coefficients .ensures .1)) place (outputs .ensures .1),
     )
 
 pub write-spec : {M : Type 1} → statement M
@@ -38,6 +42,8 @@ write-spec =
     (λ c κs. search needs)
     (λ c. search needs)
     (λ c κs. search needs)
+    (λ c. search needs)
     put-outputs-requires
+    add-result
     (λ c. search needs)
     returns)

@@ -1,3 +1,4 @@
+-- After i outputs the candidate is `candidateAfter`, and within the bounds; one that has no answer stays (`after-stays`).
 use mathlib.Core.Path.{_≡_, ap, _∙_}
 use mathlib.Core.Logic.{⊎-elim}
 use Prim.Native.Nat.{_-_, _≤_}

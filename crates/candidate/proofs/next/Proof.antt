@@ -1,3 +1,4 @@
+-- The pair is that of `nextOf`: where psi is zero it makes no fraction (`fraction-none`), else one in lowest terms (`fraction-some`).
 use mathlib.Core.Path.{_≡_, sym, ap, _∙_}
 use native.Mathlib.Omega.{arith}
 use borrow.Author.Needs.{needs}

@@ -1,3 +1,4 @@
+-- The rows that speak, and those that ask something, are at most all rows: so the bounds are low enough for `solution`.
 use mathlib.Core.Path.{_≡_, ap, _∙_}
 use Prim.Native.Nat.{_+_, _-_, _≤_}
 use native.Mathlib.Omega.{arith}

@@ -1,7 +1,5 @@
 use borrow.Author.Needs.{needs}
-use mathlib.Core.Path.{ap}
 use denote.Ref.{now}
-use Rattle.form_check.specs.Reports.{formReportOf}
 use Rattle.checked_recovery.proofs.Claim.{checked-recovery}
 use Rattle.checked_recovery.proofs.check_and_recover.Statement.{statement}
 use Rattle.checked_recovery.proofs.check_and_recover.Tie as tie
@@ -9,7 +7,7 @@ use Rattle.checked_recovery.proofs.check_and_recover.Tie as tie
 returns : tie.Need-returns
 returns c =
     let start = c .before .before .before .before .before .before .before in
-    checked-recovery (now (start .args .job)) (ap formReportOf (c .before .before .before .before .check .ensures)) _ (c .before .before .recover .ensures)
+    checked-recovery (now (start .args .job)) (c .before .before .before .before .check .ensures) _ (c .before .before .recover .ensures)
 
 pub check-and-recover-spec : {M : Type 1} → statement M
 check-and-recover-spec = tie.close (tie.spec (λ c κs. search needs) (λ c κs. search needs) (λ c. search needs) returns)

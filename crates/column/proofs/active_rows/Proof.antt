@@ -1,10 +1,10 @@
-use Prim.Native.Nat.{ℕ, _+_, _-_, _≤_}
-use mathlib.Core.Bool.{Bool}
+-- The count is that of the rows before l that ask something, so it is at most l.
+use Prim.Native.Nat.{_-_, _≤_}
 use mathlib.Core.Path.{_≡_, refl}
 use borrow.Author.Needs.{needs}
 use native.Mathlib.Omega.{arith}
 use Rattle.lists.specs.Counting.{countBelow}
-use Rattle.lists.proofs.Counting.{count-step, count-most}
+use Rattle.lists.proofs.Counting.{count-most, count-more}
 use Rattle.pairs.specs.Pairs.{activeAt, activeCount}
 use Rattle.column.proofs.active_rows.Statement.{statement}
 use Rattle.column.proofs.active_rows.Tie as tie
@@ -19,29 +19,16 @@ loop-holds : tie.Need-loop-holds Inv-loop μ-loop
 unfolding countBelow
 loop-holds c = (omega arith, refl)
 
-abbrev test : tie.At-loop Inv-loop μ-loop → ℕ → Bool
-test L = activeAt (L .before .args .weights .now) (L .before .args .z .now)
-
--- one row more
-next : (c : tie.After-asking Inv-loop μ-loop)
-    → c .before .before .before .before .loop .count + c .asking .result
-    ≡ countBelow (c .before .before .before .before .loop .l + 1) (test (c .before .before .before .before))
-next c =
-    let L = c .before .before .before .before in
-    omega (arith, count-step (L .loop .l) (test L), L .loop .inv .1, c .asking .ensures)
-
 add-count : tie.Need-add-count Inv-loop μ-loop
-add-count c =
-    let L = c .before .before .before .before in
-    omega (arith, next c, count-most (L .loop .l + 1) (test L))
+add-count c = let next = count-more _ _ (c .before .before .before .before .loop .inv .1) (c .asking .ensures) in omega (arith, next .1)
 
 loop-again : tie.Need-loop-again Inv-loop μ-loop
-loop-again c = (omega arith, next c)
+loop-again c = (omega arith, count-more _ _ (c .before .before .before .before .loop .inv .1) (c .asking .ensures) .0)
 
 cast-result : tie.Need-cast-result Inv-loop μ-loop
 cast-result c =
     let L = c .before in
-    omega (arith, L .loop .inv .1, count-most (L .loop .l) (test L))
+    omega (arith, L .loop .inv .1, count-most (L .loop .l) (activeAt (L .before .args .weights .now) (L .before .args .z .now)))
 
 returns : tie.Need-returns Inv-loop μ-loop
 returns c =

@@ -1,3 +1,4 @@
+-- The products of the rows before l are stored, and the rest are still 0; they are a column for whatever points have the forms xs.
 use lib.ListN.{getD}
 use mathlib.Core.Path.{_≡_, refl}
 use Prim.Native.Nat.{_-_, _+_, _*_, _%_, _≤_}
@@ -23,9 +24,6 @@ values-requires : tie.Need-values-requires Inv-loop μ-loop
 values-requires c κs =
     let low = denominator-low (c .before .pre .0) in
     search needs
-
-loop-holds : tie.Need-loop-holds Inv-loop μ-loop
-loop-holds c = (omega arith, filled-none 32 _ _ refl)
 
 loop-again : tie.Need-loop-again Inv-loop μ-loop
 loop-again c =
@@ -53,7 +51,7 @@ column-spec =
     μ-loop
     (λ c. omega (arith, denominator-low (c .before .pre .0)))
     values-requires
-    loop-holds
+    (λ c. (omega arith, filled-none 32 _ _ refl))
     (λ c. omega arith)
     (λ c. omega arith)
     (λ c. search needs)

@@ -1,3 +1,4 @@
+-- A list reads as 0 past its end (`at-past`).
 use borrow.Author.Needs.{needs}
 use mathlib.Core.Path.{sym}
 use native.Mathlib.Omega.{arith}

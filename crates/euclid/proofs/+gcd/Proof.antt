@@ -1,3 +1,4 @@
+-- The second length falls with each call, since a remainder is shorter than the divisor; `gcd-more` is the step of Euclid's rule.
 use mathlib.Core.Path.{_≡_, sym, _∙_}
 use lib.ListN.{length}
 use Rattle.field.proofs.Moduli.{modulus-prime}

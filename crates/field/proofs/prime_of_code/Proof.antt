@@ -1,3 +1,4 @@
+-- The last arm takes every code but 0, 1 and 2, as the definition does (`last-code`).
 use Rattle.field.proofs.Moduli.{last-code}
 use borrow.Author.Needs.{needs}
 use Rattle.field.proofs.prime_of_code.Statement.{statement}

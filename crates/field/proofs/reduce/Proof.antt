@@ -1,18 +1,7 @@
+-- The match tells which prime it is, and the remainder is by its number.
 use borrow.Author.Needs.{needs}
 use Rattle.field.proofs.reduce.Statement.{statement}
 use Rattle.field.proofs.reduce.Tie as tie
-
-returns : tie.Need-returns
-returns c = rw (c .enum-told .given .1)
-
-returns-2 : tie.Need-returns-2
-returns-2 c = rw (c .enum-told2 .given .1)
-
-returns-3 : tie.Need-returns-3
-returns-3 c = rw (c .enum-told3 .given .1)
-
-returns-4 : tie.Need-returns-4
-returns-4 c = rw (c .enum-told4 .given .1)
 
 pub reduce-spec : {M : Type 1} → statement M
 reduce-spec =
@@ -26,7 +15,7 @@ reduce-spec =
     (λ c. search needs)
     (λ c. search needs)
     (λ c. search needs)
-    returns
-    returns-2
-    returns-3
-    returns-4)
+    (λ c. rw (c .enum-told .given .1))
+    (λ c. rw (c .enum-told2 .given .1))
+    (λ c. rw (c .enum-told3 .given .1))
+    (λ c. rw (c .enum-told4 .given .1)))

@@ -1,3 +1,4 @@
+-- By the outcome of the header's tests: a refusal is handed on (`refused-first`), and past them the rows decide (`first-by-header`).
 use borrow.Author.Needs.{needs}
 use Prim.Native.Nat.{ℕ}
 use mathlib.Core.List.{List}

@@ -1,53 +1,54 @@
+-- Without the flag a row says what its numbers say, and every row speaks.
 use borrow.Author.Needs.{needs}
 use Prim.Native.Nat.{ℕ, _-_}
 use mathlib.Core.List.{List}
-use mathlib.Core.Path.{_≡_, refl, sym, ap, _∙_}
+use mathlib.Core.Path.{_≡_, sym, ap, _∙_}
 use native.Mathlib.Omega.{arith}
 use denote.Ref.{now}
-use lib.ListN.{getD, replicate}
-use Rattle.lists.proofs.Filling.{Filled, filled-from, filled-more}
-use Rattle.lists.proofs.FirstBelow.{Searching, search-start, search-next, search-found, search-end, at-not-nothing}
+use lib.ListN.{getD}
+use Rattle.job.specs.Refusals.{outOfRange}
 use Rattle.rows.specs.declared.Row.{Row}
-use Rattle.rows.specs.Rows.{jobPoint}
-use Rattle.form_check.specs.Steps.{numberTooLarge}
-use Rattle.form_check.proofs.RangeTests.{row-point, row-test}
+use Rattle.form_check.proofs.RangeTests.{row-point, row-test, all-speak}
+use Rattle.form_check.proofs.Passes.{Passing, pass-start, pass-next, pass-refused, pass-ended}
 use Rattle.form_check.proofs.scan_numbers.Statement.{statement}
 use Rattle.form_check.proofs.scan_numbers.Tie as tie
 
 abbrev Inv-loop : tie.InvT-loop
-Inv-loop job start rows outputs p points₀ r₀ points r = Searching (numberTooLarge job) rows r × Filled 32 (jobPoint job) (λ k. getD (replicate 32 65536) k 0) r points
+Inv-loop job start rows outputs p points₀ r₀ points r = Passing job rows (λ k. getD points₀ k 0) r points
 
 abbrev μ-loop : tie.MeasureT-loop
 μ-loop job start rows outputs p points₀ r₀ points r = rows - r
 
 loop-holds : tie.Need-loop-holds Inv-loop μ-loop
-loop-holds c = (search-start _ _, filled-from 32 _ 0 _ refl (λ j l. absurd (omega arith)))
+loop-holds c = pass-start (c .before .pre .0 .rows-are) (c .before .pre .1)
 
 abbrev bytes : tie.At-loop Inv-loop μ-loop → List ℕ
 bytes c = now (c .before .before .args .job)
 
 -- what the row that was read says of test 5
-test : (c : tie.After-is-out-of-range Inv-loop μ-loop) → let a = c .before .before .before .before in c .is-out-of-range .result ≡ numberTooLarge (bytes a) (a .loop .r)
+test : (c : tie.After-is-out-of-range Inv-loop μ-loop) → let a = c .before .before .before .before in c .is-out-of-range .result ≡ outOfRange (bytes a) (a .loop .r)
 test c =
     let a = c .before .before .before .before in
-    c .is-out-of-range .ensures ∙ row-test (bytes a) (a .loop .r) (a .before .before .pre .1 .3) (c .before .before .row-at .ensures)
+    let h = a .before .before .pre .0 in
+    c .is-out-of-range .ensures ∙ row-test (bytes a) (sym (h .marks-are)) (a .loop .r) (h .modulus-is) (c .before .before .row-at .ensures)
 
 returns : tie.Need-returns Inv-loop μ-loop
 returns c =
     let a = c .before .before .before .before .before in
-    (search-found _ (a .loop .inv .0) (omega arith) (sym (test (c .before)) ∙ c .if1 .taken), (λ e. absurd (at-not-nothing e)), refl)
+    pass-refused (a .loop .inv) _ _ (omega arith) (sym (test (c .before)) ∙ c .if1 .taken)
 
 loop-again : tie.Need-loop-again Inv-loop μ-loop
 loop-again c =
-    let a = c .before .before .before .before .before in (
-      search-next _ (a .loop .inv .0) (omega arith) (sym (test (c .before)) ∙ c .if1 .left),
-      filled-more (a .loop .inv .1) _ (omega arith) (ap (λ (x : Row). x .point) (c .before .before .before .row-at .ensures) ∙ row-point (bytes a) (a .loop .r)),
-    )
+    let t = c .before in
+    let a = t .before .before .before .before in
+    let point = ap (λ (x : Row). x .point) (t .before .before .row-at .ensures) ∙ row-point (bytes a) (a .loop .r) in
+    pass-next (a .loop .inv) (omega arith) (sym (test t) ∙ c .if1 .left) point
 
 returns-2 : tie.Need-returns-2 Inv-loop μ-loop
 returns-2 c =
     let a = c .before in
-    (search-end _ (a .loop .inv .0) (omega arith), (λ e r l. a .loop .inv .1 .done r (omega arith)), refl)
+    let h = a .before .before .pre .0 in
+    pass-ended (a .loop .inv) (omega arith) (h .rows-are ∙ all-speak (bytes a) (sym (h .marks-are)))
 
 pub scan-numbers-spec : {M : Type 1} → statement M
 scan-numbers-spec =

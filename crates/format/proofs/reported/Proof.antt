@@ -4,16 +4,7 @@ use Rattle.format.specs.Outcomes.{reportOf}
 use Rattle.format.proofs.reported.Statement.{statement}
 use Rattle.format.proofs.reported.Tie as tie
 
-returns : tie.Need-returns
-returns c = ap reportOf (sym (c .enum-told .given .1))
-
-returns-2 : tie.Need-returns-2
-returns-2 c = ap reportOf (sym (c .before .outcome .given .1))
-
-returns-3 : tie.Need-returns-3
-returns-3 c = rw (c .refusal-number .ensures) (ap reportOf (sym (c .before .before .outcome2 .given .1)))
-
 pub reported-spec : {M : Type 1} → statement M
 reported-spec =
     tie.close
-    (tie.spec (λ c. search needs) (λ c. search needs) (λ c. search needs) (λ c κs. search needs) returns returns-2 returns-3)
+    (tie.spec (λ c. search needs) (λ c. search needs) (λ c. search needs) (λ c κs. search needs) (λ c. ap reportOf (sym (c .enum-told .given .1))) (λ c. ap reportOf (sym (c .before .outcome .given .1))) (λ c. rw (c .refusal-number .ensures) (ap reportOf (sym (c .before .before .outcome2 .given .1)))))

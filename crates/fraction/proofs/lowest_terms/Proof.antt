@@ -1,3 +1,4 @@
+-- psi is not zero, so neither are the greatest common divisor and psi's quotient by it: the one can be divided by, the other has a leading coefficient with a reciprocal.
 use mathlib.Core.Path.{_≡_, sym, ap, _∙_}
 use Prim.Native.Nat.{_<_}
 use native.Mathlib.Omega.{arith}
@@ -80,9 +81,6 @@ divide-requires-2 c κs =
 length-requires-4 : tie.Need-length-requires-4
 length-requires-4 c κs = (omega arith, λ k l. c .before .before .divide2 .ensures .1 .within k (omega (arith, common-length (c .before .before .before .before))))
 
-sub-nonzero-reciprocal : tie.Need-sub-nonzero-reciprocal
-sub-nonzero-reciprocal c = quotient-length c
-
 nonzero-requires : tie.Need-nonzero-reciprocal-requires
 nonzero-requires c κs =
     let H = c .before in
@@ -130,7 +128,7 @@ lowest-terms-spec =
     divide-requires
     divide-requires-2
     length-requires-4
-    sub-nonzero-reciprocal
+    (λ c. quotient-length c)
     (λ c. search needs)
     (λ c. search needs)
     nonzero-requires

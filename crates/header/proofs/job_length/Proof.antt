@@ -1,3 +1,4 @@
+-- The bytes of all rows are at most 310 (`rows-bytes`), so that nothing wraps.
 use borrow.Author.Needs.{needs}
 use native.Mathlib.Omega.{arith}
 use Rattle.header.proofs.Fields.{rows-bytes}

@@ -1,3 +1,4 @@
+-- The bounds before i are read, and the cursor stands behind them, at bit 24 + 5 i; so the flags begin at bit 44.
 use Prim.Native.Nat.{ℕ, _+_, _-_, _*_, _≤_}
 use mathlib.Core.Path.{_≡_, refl, ap, _∙_}
 use borrow.Author.Needs.{needs}

@@ -1,3 +1,4 @@
+-- A field begins where the one before it ends, so the place of each is a known number (`field-at`).
 use borrow.Author.Needs.{needs}
 use Prim.Native.Nat.{ℕ, _+_, _*_}
 use mathlib.Core.List.{List}

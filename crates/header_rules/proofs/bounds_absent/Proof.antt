@@ -1,3 +1,4 @@
+-- A search among all four places; at those of outputs that exist the first half of the test fails.
 use Prim.Native.Nat.{_-_, _<_}
 use mathlib.Core.Bool.{not, _&&_}
 use mathlib.Core.Path.{_≡_, refl, sym, ap, _∙_}
@@ -16,9 +17,6 @@ Inv-loop b i₀ i = Searching (λ k. leb (b .outputs) k && not (eqb (numeratorBo
 abbrev μ-loop : tie.MeasureT-loop
 μ-loop b i₀ i = 4 - i
 
-loop-holds : tie.Need-loop-holds Inv-loop μ-loop
-loop-holds c = search-start _ _
-
 returns : tie.Need-returns Inv-loop μ-loop
 returns c =
     let n = c .before .numerator-bound .ensures in
@@ -30,19 +28,16 @@ loop-again c =
     let n = c .before .numerator-bound .ensures in
     search-next _ (c .before .before .before .before .loop .inv) (omega arith) (rw n at (c .if1 .left))
 
-returns-2 : tie.Need-returns-2 Inv-loop μ-loop
-returns-2 c = ap isFound (search-end _ (c .before .loop .inv) (omega arith))
-
 pub bounds-absent-spec : {M : Type 1} → statement M
 bounds-absent-spec =
     tie.close
     (tie.spec
     Inv-loop
     μ-loop
-    loop-holds
+    (λ c. search-start _ _)
     (λ c κs. search needs)
     returns
     (λ c. search needs)
     (λ c. search needs)
     loop-again
-    returns-2)
+    (λ c. ap isFound (search-end _ (c .before .loop .inv) (omega arith))))

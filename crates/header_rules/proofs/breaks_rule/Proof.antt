@@ -1,3 +1,4 @@
+-- A header of 3 bytes breaks no rule; for the longer one the three tests are those of `breaksRule`.
 use borrow.Author.Needs.{needs}
 use borrow.Author.Tests.{eq-eqb, ne-eqb}
 use mathlib.Core.Bool.{true, false}

@@ -1,3 +1,4 @@
+-- Test 11 counts only where test 1 has not applied, in the code as in `rulesOutcomeOf`.
 use borrow.Author.Needs.{needs}
 use borrow.Author.Tests.{lt-ltb, le-ltb}
 use Prim.Native.Nat.{_≤_}

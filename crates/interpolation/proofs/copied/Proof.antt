@@ -1,3 +1,4 @@
+-- The entries below k are copied, and the rest are still 0; both are below 2.
 use lib.ListN.{getD}
 use mathlib.Core.Path.{refl}
 use Prim.Native.Nat.{_-_, _≤_}
@@ -13,9 +14,6 @@ Inv-loop weights r₀ k₀ r k = (k ≤ 32) × Filled 32 (λ k. getD weights k 0
 abbrev μ-loop : tie.MeasureT-loop
 μ-loop weights r₀ k₀ r k = 32 - k
 
-loop-holds : tie.Need-loop-holds Inv-loop μ-loop
-loop-holds c = (omega arith, filled-none 32 _ _ refl)
-
 loop-again : tie.Need-loop-again Inv-loop μ-loop
 loop-again c = (omega arith, filled-more (c .before .before .loop .inv .1) _ (omega arith) refl)
 
@@ -30,7 +28,7 @@ copied-spec =
     (tie.spec
     Inv-loop
     μ-loop
-    loop-holds
+    (λ c. (omega arith, filled-none 32 _ _ refl))
     (λ c. omega arith)
     (λ c. omega arith)
     (λ c. omega arith)

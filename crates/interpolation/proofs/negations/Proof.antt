@@ -1,3 +1,4 @@
+-- The negations below k are stored, and the rest are still 0; both are residues.
 use lib.ListN.{getD}
 use mathlib.Core.Path.{refl}
 use Prim.Native.Nat.{_+_, _-_, _%_, _≤_, _<_}
@@ -13,9 +14,6 @@ Inv-loop p z rows r₀ k₀ r k = (k ≤ rows) × Filled 32 (λ j. (0 + (p - get
 
 abbrev μ-loop : tie.MeasureT-loop
 μ-loop p z rows r₀ k₀ r k = rows - k
-
-loop-holds : tie.Need-loop-holds Inv-loop μ-loop
-loop-holds c = (omega arith, filled-none 32 _ _ refl)
 
 cast-difference : tie.Need-cast-difference Inv-loop μ-loop
 cast-difference c =
@@ -45,7 +43,7 @@ negations-spec =
     (tie.spec
     Inv-loop
     μ-loop
-    loop-holds
+    (λ c. (omega arith, filled-none 32 _ _ refl))
     (λ c. omega arith)
     (λ c. omega arith)
     cast-difference

@@ -1,3 +1,4 @@
+-- The entries below k are copied; a list of 32 entries is told by them (`is-tabulate`).
 use lib.ListN.{getD}
 use Prim.Native.Nat.{_≤_, _-_}
 use mathlib.Core.Path.{refl, sym, _∙_}
@@ -13,9 +14,6 @@ Inv-loop a r₀ k₀ r k = (k ≤ 32) × Filled 32 (λ k. getD a k 0) (λ j. 0) 
 
 abbrev μ-loop : tie.MeasureT-loop
 μ-loop a r₀ k₀ r k = 32 - k
-
-loop-holds : tie.Need-loop-holds Inv-loop μ-loop
-loop-holds c = (omega arith, filled-none 32 _ _ (c .zero .ensures))
 
 loop-again : tie.Need-loop-again Inv-loop μ-loop
 loop-again c = (omega arith, filled-more (c .before .before .loop .inv .1) _ (omega arith) refl)
@@ -33,7 +31,7 @@ widened-spec =
     Inv-loop
     μ-loop
     (λ c κs. search needs)
-    loop-holds
+    (λ c. (omega arith, filled-none 32 _ _ (c .zero .ensures)))
     (λ c. omega arith)
     (λ c. omega arith)
     (λ c. omega (arith, c .before .before .before .before .pre .1 (c .before .before .loop .k)))

@@ -1,8 +1,9 @@
-use mathlib.Core.Path.{_≡_, refl}
-use Prim.Native.Nat.{ℕ, _-_, _<_}
-use lib.ListN.{getD, replicate}
+-- The invariant is `Changing` with `combinedLane`. A turn stores the difference of two products, which are below p since they are reduced.
+use lib.ListN.{getD}
+use mathlib.Core.Path.{refl}
+use Prim.Native.Nat.{_-_}
 use Rattle.lanes.specs.Lanes.{combinedLane}
-use Rattle.lanes.proofs.Changes.{Changing, changing-start, changing-same, changing-next, changing-end, splat, below-lane, splat-below, next-below, reduced-below, combined-is}
+use Rattle.lanes.proofs.Changes.{Changing, changing-start, changing-next, changing-end, lane-below, splat-below, next-below, reduced-below, combined-is}
 use borrow.Author.Needs.{needs}
 use native.Mathlib.Omega.{arith}
 use Rattle.lane_combination.proofs.combine.Statement.{statement}
@@ -10,51 +11,32 @@ use Rattle.lane_combination.proofs.combine.Tie as tie
 
 abbrev Inv-loop : tie.InvT-loop
 Inv-loop ps from n a₀ b ds dl cs cl start end k₀ a k =
-    Changing start end (combinedLane ps (record { form = getD ds 0 0; low = getD dl 0 0 }) a₀ (record { form = getD cs 0 0; low = getD cl 0 0 }) b) a₀ k a
+    Changing ps start end (combinedLane ps (record { form = getD ds 0 0; low = getD dl 0 0 }) a₀ (record { form = getD cs 0 0; low = getD cl 0 0 }) b) a₀ k a
 
 abbrev μ-loop : tie.MeasureT-loop
 μ-loop ps from n a₀ b ds dl cs cl start end k₀ a k = end - k
 
-loop-holds : tie.Need-loop-holds Inv-loop μ-loop
-loop-holds c = changing-start _ _ _ _ (omega arith) (c .pre .3 .size)
-
--- the lane of a turn
-lane : (T : tie.In-loop Inv-loop μ-loop) → T .before .loop .k < 32
-lane T = omega arith
-
 product-requires : tie.Need-product-requires Inv-loop μ-loop
 product-requires c κs =
-    let T = c .before .before in
-    let S = T .before .before in
-    (splat-below (S .pre .2) _ (lane T) (S .pre .5), next-below (S .pre .2) _ (lane T) (S .pre .3) (T .before .loop .inv))
+    let L = c .before .before .before in
+    (splat-below (L .loop .inv) (omega arith) (L .before .pre .5), next-below (L .loop .inv) (omega arith))
 
 product-requires-2 : tie.Need-product-requires-2 Inv-loop μ-loop
 product-requires-2 c κs =
-    let T = c .before .before .before .before in
-    let S = T .before .before in
-    (splat-below (S .pre .2) _ (lane T) (S .pre .6), below-lane (S .pre .2) _ (lane T) (S .pre .4 .below _))
+    let L = c .before .before .before .before .before in
+    (splat-below (L .loop .inv) (omega arith) (L .before .pre .6), lane-below (L .loop .inv) (omega arith) (L .before .pre .4 .below _))
 
 difference-requires : tie.Need-difference-requires Inv-loop μ-loop
 difference-requires c κs =
-    let T = c .before .before .before .before .before in
-    let S = T .before .before in
-    let positive : 0 < getD (S .args .ps .now) (T .before .loop .k) 0 = below-lane (S .pre .2) _ (lane T) (omega (arith, S .pre .3 .below 0)) in
-    let one = reduced-below _ _ _ _ positive (c .before .before .product .ensures) in
-    let two = reduced-below _ _ _ _ positive (c .product2 .ensures) in
-    (one, omega arith)
+    let inv = c .before .before .before .before .before .before .loop .inv in
+    let taken = reduced-below inv (omega arith) _ _ _ (c .product2 .ensures) in
+    (reduced-below inv (omega arith) _ _ _ (c .before .before .product .ensures), omega arith)
 
 loop-again : tie.Need-loop-again Inv-loop μ-loop
 loop-again c =
-    let T = c .before .before .before .before .before .before in
-    let S = T .before .before in
-    let inv = T .before .loop .inv in
-    let each : (x : ℕ) → getD (replicate 32 x) (T .before .loop .k) 0 ≡ x = λ x. splat x _ (lane T) in
-    let value = combined-is (S .args .ps .now) (S .args .a .now) _ _ _ (S .args .b .now) (each _) (each _) (each _) (each _) (changing-same inv)
-    (c .before .before .before .product .ensures) (c .before .product2 .ensures) (c .difference .ensures) in
-    changing-next inv (c .difference .result) (omega arith) (omega arith) value
-
-returns : tie.Need-returns Inv-loop μ-loop
-returns c = (refl, changing-end (c .before .loop .inv) (omega arith))
+    let inv = c .before .before .before .before .before .before .before .loop .inv in
+    let value = combined-is inv (omega arith) _ _ _ (c .before .before .before .product .ensures) (c .before .product2 .ensures) (c .difference .ensures) in
+    changing-next inv (omega arith) value
 
 pub combine-spec : {M : Type 1} → statement M
 combine-spec =
@@ -65,7 +47,7 @@ combine-spec =
     (λ c. omega arith)
     (λ c. omega arith)
     (λ c. omega arith)
-    loop-holds
+    (λ c. changing-start (c .pre .2) (c .pre .3) (omega arith) (omega arith))
     (λ c. omega arith)
     (λ c. omega arith)
     (λ c. omega arith)
@@ -89,4 +71,4 @@ combine-spec =
     (λ c. omega arith)
     loop-again
     (λ c. omega arith)
-    returns)
+    (λ c. (refl, changing-end (c .before .loop .inv) (omega arith))))

@@ -1,3 +1,4 @@
+-- The difference is taken only where it is at least 1; elsewhere `excessOf` is 0 too.
 use mathlib.Core.Path.{sym}
 use native.Mathlib.Omega.{arith}
 use borrow.Author.Needs.{needs}

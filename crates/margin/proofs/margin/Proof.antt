@@ -1,3 +1,4 @@
+-- With an area of 254 bytes the tests say what a check for form says; an accepted job's reading then holds the fields that the margin is made of.
 use mathlib.Core.Path.{_≡_, sym, ap, ap₂, _∙_}
 use mathlib.Core.Logic.{⊎-elim}
 use mathlib.Core.List.{List}

@@ -1,3 +1,4 @@
+-- A search for a value that is not m.
 use Prim.Native.Nat.{_-_}
 use mathlib.Core.Bool.{not}
 use mathlib.Core.Path.{ap}
@@ -17,29 +18,17 @@ Inv-loop outputs m values i₀ i = Searching (λ k. not (eqb (getD values k 0) m
 abbrev μ-loop : tie.MeasureT-loop
 μ-loop outputs m values i₀ i = outputs - i
 
-loop-holds : tie.Need-loop-holds Inv-loop μ-loop
-loop-holds c = search-start _ _
-
-returns : tie.Need-returns Inv-loop μ-loop
-returns c = ap (λ f. not (isFound f)) (search-found _ (c .before .before .loop .inv) (omega arith) (ap not (ne-eqb _ _ (c .if1 .taken))))
-
-loop-again : tie.Need-loop-again Inv-loop μ-loop
-loop-again c = search-next _ (c .before .before .loop .inv) (omega arith) (ap not (eq-eqb _ _ (c .if1 .left)))
-
-returns-2 : tie.Need-returns-2 Inv-loop μ-loop
-returns-2 c = ap (λ f. not (isFound f)) (search-end _ (c .before .loop .inv) (omega arith))
-
 pub all-are-spec : {M : Type 1} → statement M
 all-are-spec =
     tie.close
     (tie.spec
     Inv-loop
     μ-loop
-    loop-holds
+    (λ c. search-start _ _)
     (λ c. search needs)
     (λ c. search needs)
-    returns
+    (λ c. ap (λ f. not (isFound f)) (search-found _ (c .before .before .loop .inv) (omega arith) (ap not (ne-eqb _ _ (c .if1 .taken)))))
     (λ c. search needs)
     (λ c. search needs)
-    loop-again
-    returns-2)
+    (λ c. search-next _ (c .before .before .loop .inv) (omega arith) (ap not (eq-eqb _ _ (c .if1 .left))))
+    (λ c. ap (λ f. not (isFound f)) (search-end _ (c .before .loop .inv) (omega arith))))

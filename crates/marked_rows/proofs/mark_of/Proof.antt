@@ -1,3 +1,4 @@
+-- The tests run as in `markOf`: where marks are allowed, all 65535 before all 65534.
 use borrow.Author.Needs.{needs}
 use mathlib.Core.Path.{_≡_, sym, _∙_}
 use Rattle.marked_rows.proofs.Marks.{pole-if, silent-if, none-if, unmarked-if-not-allowed}

@@ -1,3 +1,4 @@
+-- Past the job's tests the reading is known whole; then the tests of the offered bytes pass exactly if these are the answer (`passes-right`, `right-passes`).
 use mathlib.Core.Path.{_≡_, sym, ap, subst, _∙_}
 use mathlib.Core.Logic.{_⊎_, inl, inr, ⊎-elim, _↔_}
 use mathlib.Core.Bool.{true}

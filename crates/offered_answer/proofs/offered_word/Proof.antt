@@ -1,3 +1,4 @@
+-- The word fits since each of its four bytes is below 256.
 use native.Mathlib.Omega.{arith}
 use borrow.Author.Needs.{needs}
 use Rattle.offered_answer.proofs.offered_word.Statement.{statement}
@@ -14,8 +15,5 @@ add-result c =
     let byte = c .before .before .shared-slice-known .given in
     omega (arith, c .before .number-from .ensures, c .number-from2 .ensures, byte 0, byte 1, byte 2, byte 3)
 
-returns : tie.Need-returns
-returns c = search needs
-
 pub offered-word-spec : {M : Type 1} → statement M
-offered-word-spec = tie.close (tie.spec (λ c κs. search needs) mul-result (λ c κs. search needs) add-result returns)
+offered-word-spec = tie.close (tie.spec (λ c κs. search needs) mul-result (λ c κs. search needs) add-result (λ c. search needs))

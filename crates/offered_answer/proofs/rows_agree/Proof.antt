@@ -1,3 +1,4 @@
+-- Both ways: the wrong rows' word is the only one that agrees, and its ones are compared with E.
 use mathlib.Core.Path.{sym, _∙_}
 use native.Mathlib.Omega.{arith}
 use borrow.Author.Needs.{needs}

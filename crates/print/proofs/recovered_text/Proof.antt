@@ -1,5 +1,6 @@
+-- The buffer holds every text of a job and the bounds are those of one (`always-written`), so the other two answers of `write_text` do not come.
 use Prim.Native.Nat.{ℕ}
-use mathlib.Core.Path.{_≡_, ap, _∙_}
+use mathlib.Core.Path.{_≡_, ap}
 use mathlib.Core.List.{List}
 use lib.ListN.{length}
 use borrow.Author.Needs.{needs}
@@ -20,33 +21,31 @@ module _ (v : tie.After-write-text) where
   reading = v .before .before .before .before
 
   abbrev recovering : tie.After-recover-with-margin
-  recovering = reading .before .before .before
+  recovering = reading .before .before
 
   abbrev found : Measured
   found = recovering .recover-with-margin .result
 
   abbrev start : tie.Start
-  start = recovering .before .before .before .before .before
+  start = recovering .before .before .before .before
 
   abbrev left : List ℕ
   left = recovering .recover-with-margin .last .1 .0
 
-  known : reading .read .result .bounds ≡ parsedJobOf (start .args .bytes .now) (length (start .args .area .now)) .bounds
-  known =
-      ap (λ (r : ParsedJob). r .bounds) (reading .read .ensures)
-      ∙ ap (λ room. parsedJobOf (start .args .bytes .now) room .bounds) (recovering .recover-with-margin .kept .1 .0)
+  known : reading .read .result .bounds ≡ parsedJobOf (start .args .bytes .now) 254 .bounds
+  known = ap (λ (r : ParsedJob). r .bounds) (reading .read .ensures)
 
   written : v .write-text .result ≡ Bytes (length (textOf (reading .read .result .bounds) (found .recovery) (found .margin) left))
   written =
       let told = v .write-text .ensures in
-      always-written (start .args .bytes .now) (start .args .area .now) left (start .args .buffer .now) (v .write-text .last .1 .1 .1 .1 .0)
+      always-written (start .args .bytes .now) left (start .args .buffer .now) (v .write-text .last .1 .1 .1 .1 .0)
       (found .recovery) (reading .read .result .bounds) (found .margin) (v .write-text .result) known (start .pre) (told .0) (told .1) (told .2)
 
   result : (n : ℕ) → v .write-text .result ≡ Bytes n
-      → Printed (start .args .bytes .now) (start .args .area .now) left (start .args .buffer .now) n (v .write-text .last .1 .1 .1 .1 .0)
+      → Printed (start .args .bytes .now) (start .args .buffer .now) n (v .write-text .last .1 .1 .1 .1 .0)
   result n is =
       let told = v .write-text .ensures in
-      printed (start .args .bytes .now) (start .args .area .now) left (start .args .buffer .now) (v .write-text .last .1 .1 .1 .1 .0)
+      printed (start .args .bytes .now) left (start .args .buffer .now) (v .write-text .last .1 .1 .1 .1 .0)
       (found .recovery) (reading .read .result .bounds) (found .margin) (v .write-text .result) known (start .pre) (told .0) (told .1) (told .2)
       (recovering .recover-with-margin .ensures) n is
 
@@ -63,18 +62,17 @@ pub recovered-text-spec : {M : Type 1} → statement M
 recovered-text-spec =
     tie.close
     (tie.spec
-    (λ c κs. search needs)
+    (λ c. search needs)
     (λ c κs. search needs)
     (λ c κs. search needs)
     (λ c. search needs)
+    (λ c κs. search needs)
     (λ c. search needs)
     (λ c. search needs)
     (λ c. search needs)
     (λ c. search needs)
     returns
     (λ c. search needs)
-    (λ c. search needs)
     returns-2
-    (λ c. search needs)
     (λ c. search needs)
     returns-3)

@@ -1,3 +1,4 @@
+-- The sum is the definition spelled out for four bytes (`four-bytes`).
 use borrow.Author.Needs.{needs}
 use native.Mathlib.Omega.{arith}
 use denote.Ref.{now}

@@ -1,3 +1,4 @@
+-- Eight bytes joined are the first four joined, times 2^32, and the other four (`eight-bytes`).
 use borrow.Author.Needs.{needs}
 use native.Mathlib.Omega.{arith}
 use denote.Ref.{now}

@@ -1,3 +1,4 @@
+-- What leaves 0 has none (`zero-has-none`); anything else has the reciprocal of its residue.
 use mathlib.Core.Path.{ap, _∙_}
 use native.Mathlib.Omega.{arith}
 use borrow.Author.Needs.{needs}

@@ -1,9 +1,9 @@
+-- A test before 8 refuses, or the solver works on the job's own rows; each of its two outcomes settles the call (`settle-unsolved`, `settle-solved`).
 use mathlib.Core.Path.{_≡_, sym, _∙_, ap, subst}
 use mathlib.Core.Logic.{⊎-elim}
 use mathlib.Core.List.{List}
 use Prim.Native.Nat.{ℕ, _≤_}
 use native.Mathlib.Omega.{arith}
-use borrow.Author.Tests.{not-true, not-false}
 use lib.ListN.{length}
 use Rattle.format.specs.declared.Outcome.the-variants.{Accepted}
 use Rattle.format.specs.Bounds.{FitsPolynomials, answerLengthOf, EnoughRows}
@@ -65,9 +65,10 @@ solve-requires c κs =
 
 returns-2 : tie.Need-returns-2
 returns-2 c =
-    let v = c .before .before in
+    let v = c .before in
     let d = v .before .before .before .before .before in
-    settle-unsolved (job (here d)) (area (here d)) (well-formed d) (v .solve .result) (solution v) (not-true _ (c .if1 .taken))
+    settle-unsolved (job (here d)) (area (here d)) (well-formed d) (v .solve .result) (solution v)
+    (λ e. ⊎-elim (λ h. omega arith) (λ h. omega arith) (rw e at (c .match2 .keys2)))
 
 write-requires : tie.Need-write-requires
 write-requires c κs =
@@ -98,7 +99,7 @@ returns-3 c =
     let v = w c .before .before .before .before .before .before in
     let d = told c in
     let t = v .solve .result in
-    settle-solved (job (here d)) (area (here d)) (well-formed d) t (solution v) (not-false _ (w c .before .before .before .before .if1 .left)) _ (bytes-are c)
+    settle-solved (job (here d)) (area (here d)) (well-formed d) t (solution v) (w c .before .before .before .before .enum-told2 .given .1) _ (bytes-are c)
     (w c .write .last .0)
     (w c .write .ensures .1 ∙ ap (λ (r : ParsedJob). overwritten (answerBytes (r .bounds) (t .word) (t .g .c) (coefficientsAt (t .f))) (area (here d))) (accepted d))
 
@@ -110,6 +111,7 @@ recover-spec =
     (λ c. search needs)
     returns
     solve-requires
+    (λ c. search needs)
     returns-2
     write-requires
     cast-bytes

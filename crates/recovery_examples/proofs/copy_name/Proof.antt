@@ -1,3 +1,4 @@
+-- Only the number of turns matters: nothing is promised of what is read and written.
 use Prim.Native.Nat.{_-_, _≤_}
 use borrow.Author.Needs.{needs}
 use Rattle.recovery_examples.proofs.copy_name.Statement.{statement}

@@ -1,3 +1,4 @@
+-- The count stays within the area, whose length no store changes.
 use Prim.Native.Nat.{_-_, _≤_}
 use mathlib.Core.Path.{_≡_}
 use lib.ListN.{length}

@@ -1,3 +1,4 @@
+-- Only the index matters: nothing is promised of what is written.
 use Prim.Native.Nat.{_-_, _≤_}
 use borrow.Author.Needs.{needs}
 use Rattle.recovery_examples.proofs.show_bytes.Statement.{statement}

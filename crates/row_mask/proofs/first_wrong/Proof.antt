@@ -1,3 +1,4 @@
+-- The leading zeros of a 32-bit number are the rows before the first isSet one (`leading-set`).
 use Rattle.row_mask.proofs.SetBits.{leading-set}
 use Rattle.row_mask.proofs.first_wrong.Statement.{statement}
 use Rattle.row_mask.proofs.first_wrong.Tie as tie

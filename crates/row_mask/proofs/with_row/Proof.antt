@@ -1,3 +1,4 @@
+-- The shifted 1 is a power of two below 2^32, so the shift loses nothing.
 use Prim.Native.Nat.{_+_, _-_, _*_, _%_, _^_}
 use mathlib.Core.Path.{_≡_, ap}
 use native.Mathlib.Nat.{mod-eq-of-lt}

@@ -1,3 +1,4 @@
+-- The ones of a 32-bit number are its isSet rows (`ones-set`).
 use Rattle.row_mask.proofs.SetBits.{ones-set}
 use Rattle.row_mask.proofs.wrong_count.Statement.{statement}
 use Rattle.row_mask.proofs.wrong_count.Tie as tie

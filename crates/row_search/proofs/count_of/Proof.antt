@@ -1,13 +1,14 @@
-use Prim.Native.Nat.{ℕ, _+_, _-_, _≤_}
+-- The count is that of the numbers before k that are x, so it is at most k; a test's truth value is what it adds.
+use Prim.Native.Nat.{ℕ, _-_, _≤_}
 use mathlib.Core.Bool.{Bool, true, false}
-use mathlib.Core.Path.{_≡_, refl, sym}
+use mathlib.Core.Path.{_≡_, refl}
 use borrow.Author.Needs.{needs}
 use native.Mathlib.Omega.{arith}
 use lib.Dec.{eqb}
 use lib.ListN.{getD}
 use mir.Val.{boolByte}
 use Rattle.lists.specs.Counting.{oneIf, countBelow}
-use Rattle.lists.proofs.Counting.{count-step, count-most}
+use Rattle.lists.proofs.Counting.{count-more}
 use Rattle.row_search.proofs.count_of.Statement.{statement}
 use Rattle.row_search.proofs.count_of.Tie as tie
 
@@ -27,18 +28,13 @@ flag true = refl
 flag false = refl
 
 abbrev test : tie.At-loop Inv-loop μ-loop → ℕ → Bool
-test c j = eqb (getD (c .before .args .numbers .now) j 0) (c .before .args .x)
-
-next : (c : tie.At-loop Inv-loop μ-loop) → countBelow (c .loop .k + 1) (test c) ≡ c .loop .count + boolByte (test c (c .loop .k))
-next c = omega (arith, count-step (c .loop .k) (test c), c .loop .inv .1, flag (test c (c .loop .k)))
+test L j = eqb (getD (L .before .args .numbers .now) j 0) (L .before .args .x)
 
 add-count : tie.Need-add-count Inv-loop μ-loop
-add-count c =
-    let a = c .before .before in
-    omega (arith, next a, count-most (a .loop .k + 1) (test a))
+add-count c = let L = c .before .before in omega (arith, count-more _ (test L) (L .loop .inv .1) (flag (test L (L .loop .k))) .1)
 
 loop-again : tie.Need-loop-again Inv-loop μ-loop
-loop-again c = (omega arith, sym (next (c .before .before)))
+loop-again c = let L = c .before .before in (omega arith, count-more _ (test L) (L .loop .inv .1) (flag (test L (L .loop .k))) .0)
 
 returns : tie.Need-returns Inv-loop μ-loop
 returns c =

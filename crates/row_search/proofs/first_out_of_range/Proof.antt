@@ -1,3 +1,4 @@
+-- A search whose test is made of two: that of the point, and that of the values, which `value_out_of_range` decides.
 use Prim.Native.Nat.{_-_, _+_, _*_}
 use mathlib.Core.Path.{refl, sym, ap₂, _∙_}
 use mathlib.Core.Bool.{_||_}
@@ -18,9 +19,6 @@ Inv-loop points values rows outputs p r₀ r =
 abbrev μ-loop : tie.MeasureT-loop
 μ-loop points values rows outputs p r₀ r = rows - r
 
-loop-holds : tie.Need-loop-holds Inv-loop μ-loop
-loop-holds c = search-start _ _
-
 returns : tie.Need-returns Inv-loop μ-loop
 returns c = search-found _ (c .before .before .before .loop .inv) (omega arith) (ap₂ _||_ (le-leb _ _ (c .if1 .taken)) refl)
 
@@ -34,16 +32,13 @@ loop-again c =
     let here = ap₂ _||_ (lt-leb _ _ (c .before .before .if1 .left)) (sym (c .before .value-out-of-range .ensures) ∙ c .if2 .left) in
     search-next _ (c .before .before .before .before .before .loop .inv) (omega arith) here
 
-returns-3 : tie.Need-returns-3 Inv-loop μ-loop
-returns-3 c = search-end _ (c .before .loop .inv) (omega arith)
-
 pub first-out-of-range-spec : {M : Type 1} → statement M
 first-out-of-range-spec =
     tie.close
     (tie.spec
     Inv-loop
     μ-loop
-    loop-holds
+    (λ c. search-start _ _)
     (λ c. search needs)
     (λ c. search needs)
     (λ c. search needs)
@@ -54,4 +49,4 @@ first-out-of-range-spec =
     (λ c. search needs)
     (λ c. search needs)
     loop-again
-    returns-3)
+    (λ c. search-end _ (c .before .loop .inv) (omega arith)))

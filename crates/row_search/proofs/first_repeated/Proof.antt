@@ -1,3 +1,4 @@
+-- Where the points rise, or each stands once, none is repeated (`none-repeated`); else the search by pairs decides.
 use borrow.Author.Needs.{needs}
 use mathlib.Core.Path.{sym}
 use Rattle.lists.proofs.Distinct.{none-repeated}

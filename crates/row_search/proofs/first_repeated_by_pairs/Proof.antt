@@ -1,3 +1,4 @@
+-- A search whose test `stands_earlier` decides.
 use Prim.Native.Nat.{_-_}
 use mathlib.Core.Path.{sym, _∙_}
 use borrow.Author.Needs.{needs}
@@ -15,17 +16,11 @@ Inv-loop points rows r₀ r = Searching (λ k. anyBelow k (λ q. eqb (getD point
 abbrev μ-loop : tie.MeasureT-loop
 μ-loop points rows r₀ r = rows - r
 
-loop-holds : tie.Need-loop-holds Inv-loop μ-loop
-loop-holds c = search-start _ _
-
 returns : tie.Need-returns Inv-loop μ-loop
 returns c = search-found _ (c .before .before .before .loop .inv) (omega arith) (sym (c .before .stands-earlier .ensures) ∙ c .if1 .taken)
 
 loop-again : tie.Need-loop-again Inv-loop μ-loop
 loop-again c = search-next _ (c .before .before .before .loop .inv) (omega arith) (sym (c .before .stands-earlier .ensures) ∙ c .if1 .left)
-
-returns-2 : tie.Need-returns-2 Inv-loop μ-loop
-returns-2 c = search-end _ (c .before .loop .inv) (omega arith)
 
 pub first-repeated-by-pairs-spec : {M : Type 1} → statement M
 first-repeated-by-pairs-spec =
@@ -33,11 +28,11 @@ first-repeated-by-pairs-spec =
     (tie.spec
     Inv-loop
     μ-loop
-    loop-holds
+    (λ c. search-start _ _)
     (λ c. search needs)
     (λ c κs. search needs)
     returns
     (λ c. search needs)
     (λ c. search needs)
     loop-again
-    returns-2)
+    (λ c. search-end _ (c .before .loop .inv) (omega arith)))

@@ -1,3 +1,4 @@
+-- Each point before r is above all points before it (`rising-more`), so no two of them are the same. A false result says nothing.
 use Prim.Native.Nat.{_-_, _≤_}
 use mathlib.Core.Path.{sym}
 use borrow.Author.Needs.{needs}

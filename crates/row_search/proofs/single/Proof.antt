@@ -1,3 +1,4 @@
+-- Each number before r stands once among all 32, so that no two of them are the same (`once-distinct`).
 use Prim.Native.Nat.{ℕ, _+_, _-_, _≤_, _<_}
 use mathlib.Core.Logic.{⊎-elim}
 use mathlib.Core.Path.{_≡_, sym, _∙_}

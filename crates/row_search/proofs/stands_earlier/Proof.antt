@@ -1,3 +1,4 @@
+-- A search among the rows before r for one with r's point.
 use Prim.Native.Nat.{_-_}
 use mathlib.Core.Path.{ap}
 use borrow.Author.Needs.{needs}
@@ -16,18 +17,6 @@ Inv-loop points r point q₀ q = Searching (λ k. eqb (getD points k 0) (getD po
 abbrev μ-loop : tie.MeasureT-loop
 μ-loop points r point q₀ q = r - q
 
-loop-holds : tie.Need-loop-holds Inv-loop μ-loop
-loop-holds c = search-start _ _
-
-returns : tie.Need-returns Inv-loop μ-loop
-returns c = ap isFound (search-found _ (c .before .before .before .loop .inv) (omega arith) (eq-eqb _ _ (c .if1 .taken)))
-
-loop-again : tie.Need-loop-again Inv-loop μ-loop
-loop-again c = search-next _ (c .before .before .before .loop .inv) (omega arith) (ne-eqb _ _ (c .if1 .left))
-
-returns-2 : tie.Need-returns-2 Inv-loop μ-loop
-returns-2 c = ap isFound (search-end _ (c .before .loop .inv) (omega arith))
-
 pub stands-earlier-spec : {M : Type 1} → statement M
 stands-earlier-spec =
     tie.close
@@ -36,11 +25,11 @@ stands-earlier-spec =
     μ-loop
     (λ c. search needs)
     (λ c. search needs)
-    loop-holds
+    (λ c. search-start _ _)
     (λ c. search needs)
     (λ c. search needs)
-    returns
+    (λ c. ap isFound (search-found _ (c .before .before .before .loop .inv) (omega arith) (eq-eqb _ _ (c .if1 .taken))))
     (λ c. search needs)
     (λ c. search needs)
-    loop-again
-    returns-2)
+    (λ c. search-next _ (c .before .before .before .loop .inv) (omega arith) (ne-eqb _ _ (c .if1 .left)))
+    (λ c. ap isFound (search-end _ (c .before .loop .inv) (omega arith))))

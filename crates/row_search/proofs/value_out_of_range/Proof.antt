@@ -1,3 +1,4 @@
+-- A search among the row's values, which stand from `from` on.
 use Prim.Native.Nat.{_-_, _+_}
 use mathlib.Core.Path.{ap}
 use borrow.Author.Needs.{needs}
@@ -16,30 +17,18 @@ Inv-loop values from outputs p i₀ i = Searching (λ k. leb p (getD values (fro
 abbrev μ-loop : tie.MeasureT-loop
 μ-loop values from outputs p i₀ i = outputs - i
 
-loop-holds : tie.Need-loop-holds Inv-loop μ-loop
-loop-holds c = search-start _ _
-
-returns : tie.Need-returns Inv-loop μ-loop
-returns c = ap isFound (search-found _ (c .before .before .before .loop .inv) (omega arith) (le-leb _ _ (c .if1 .taken)))
-
-loop-again : tie.Need-loop-again Inv-loop μ-loop
-loop-again c = search-next _ (c .before .before .before .loop .inv) (omega arith) (lt-leb _ _ (c .if1 .left))
-
-returns-2 : tie.Need-returns-2 Inv-loop μ-loop
-returns-2 c = ap isFound (search-end _ (c .before .loop .inv) (omega arith))
-
 pub value-out-of-range-spec : {M : Type 1} → statement M
 value-out-of-range-spec =
     tie.close
     (tie.spec
     Inv-loop
     μ-loop
-    loop-holds
+    (λ c. search-start _ _)
     (λ c. search needs)
     (λ c. search needs)
     (λ c. search needs)
-    returns
+    (λ c. ap isFound (search-found _ (c .before .before .before .loop .inv) (omega arith) (le-leb _ _ (c .if1 .taken))))
     (λ c. search needs)
     (λ c. search needs)
-    loop-again
-    returns-2)
+    (λ c. search-next _ (c .before .before .before .loop .inv) (omega arith) (lt-leb _ _ (c .if1 .left)))
+    (λ c. ap isFound (search-end _ (c .before .loop .inv) (omega arith))))

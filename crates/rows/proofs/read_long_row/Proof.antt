@@ -1,3 +1,4 @@
+-- Part j of the word is the row's number j (`parts`); the fifth number, where there is one, is read by itself.
 use borrow.Author.Needs.{needs}
 use Prim.Native.Nat.{ℕ, _+_, _*_, _<_}
 use mathlib.Core.Bool.{cond}

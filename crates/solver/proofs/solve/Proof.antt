@@ -1,3 +1,4 @@
+-- The word and the count that were computed are those of the candidate; the three branches are those of `judgedSolution`.
 use mathlib.Core.Path.{_≡_, ap, _∙_}
 use native.Mathlib.Omega.{arith}
 use borrow.Author.Tests.{not-true, not-false}

@@ -1,3 +1,4 @@
+-- p is at least 2, so that p - 1 is no zero divisor; the sum fits since the top bits are below 2^16.
 use Prim.Native.Nat.{_<_}
 use native.Mathlib.Omega.{arith}
 use borrow.Author.Needs.{needs}

@@ -1,3 +1,4 @@
+-- `Spoiled`: after j spoilings the array holds what they add, and `last` is the last word drawn. A chosen row is below `rows`.
 use Prim.Native.Nat.{_-_, _≤_}
 use mathlib.Core.Path.{_≡_}
 use native.Mathlib.Nat.{lt-of-lt-of-le}
@@ -15,9 +16,6 @@ Inv-loop q rows start count by₀ last₀ j₀ by last j = (j ≤ count) × Spoi
 
 abbrev μ-loop : tie.MeasureT-loop
 μ-loop q rows start count by₀ last₀ j₀ by last j = count - j
-
-loop-holds : tie.Need-loop-holds Inv-loop μ-loop
-loop-holds c = (omega arith, spoiled-none _ _ _)
 
 array-write-by : tie.Need-array-write-by Inv-loop μ-loop
 array-write-by c =
@@ -50,7 +48,7 @@ spoilings-spec =
     (tie.spec
     Inv-loop
     μ-loop
-    loop-holds
+    (λ c. (omega arith, spoiled-none _ _ _))
     (λ c κs. search needs)
     (λ c κs. search needs)
     (λ c κs. search needs)

@@ -1,3 +1,4 @@
+-- A search for how far behind row d, round the rows, the first untaken row stands; where all are taken, code and definition both say d.
 use Prim.Native.Nat.{_+_, _-_, _%_}
 use mathlib.Core.Path.{_≡_, sym, ap, _∙_}
 use mathlib.Core.Bool.{not}
@@ -18,9 +19,6 @@ Inv-loop rows d by k₀ k = Searching (λ i. not (not (eqb (getD by ((d + i) % r
 
 abbrev μ-loop : tie.MeasureT-loop
 μ-loop rows d by k₀ k = rows - k
-
-loop-holds : tie.Need-loop-holds Inv-loop μ-loop
-loop-holds c = search-start _ _
 
 array-read-if1 : tie.Need-array-read-if1 Inv-loop μ-loop
 array-read-if1 c = lt-of-lt-of-le (mod-lt _ (omega arith)) (c .before .before .pre .0)
@@ -53,7 +51,7 @@ untaken-from-spec =
     (tie.spec
     Inv-loop
     μ-loop
-    loop-holds
+    (λ c. search-start _ _)
     (λ c. omega arith)
     (λ c. omega arith)
     mul-if1

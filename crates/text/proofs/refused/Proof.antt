@@ -1,3 +1,4 @@
+-- The pieces are put one behind the other (`put-onto`); together they are shorter than the draft (`refused-short`), so none is cut.
 use Prim.Native.Nat.{suc}
 use mathlib.Core.Path.{_≡_}
 use mathlib.Core.List.{[], _++_}

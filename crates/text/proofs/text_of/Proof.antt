@@ -1,3 +1,4 @@
+-- The text of each case of the outcome; `Accepted` has none.
 use mathlib.Core.Path.{sym, subst}
 use Rattle.text.specs.Drafts.{Spells}
 use Rattle.text.specs.Text.{textOf}

@@ -1,3 +1,4 @@
+-- By what tests 1 and 11 say: a refusal is theirs (`two-refused`), and past them the lengths are tested (`two-passed`).
 use borrow.Author.Needs.{needs}
 use Prim.Native.Nat.{ℕ}
 use mathlib.Core.List.{List}

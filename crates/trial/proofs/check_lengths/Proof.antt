@@ -1,3 +1,4 @@
+-- Each branch is the first test that applies: 3 by either of two lengths, then 4; both go by the header that was read.
 use borrow.Author.Needs.{needs}
 use borrow.Author.Tests.{lt-ltb, le-ltb, eq-eqb, ne-eqb}
 use Prim.Native.Nat.{ℕ, _-_, _<_, _≤_}

@@ -1,3 +1,4 @@
+-- Each branch is the first test that applies: 9 by either of two comparisons, then 5.
 use mathlib.Core.Bool.{false}
 use mathlib.Core.Path.{_≡_, refl, sym, _∙_}
 use borrow.Author.Needs.{needs}

@@ -1,3 +1,4 @@
+-- The tests before 10 leave the facts that the reader of coefficients and the writer ask for (`trial-facts`); the vector that was read is that of the definition, so both are reduced or neither is (`same-reduced`).
 use borrow.Author.Needs.{needs}
 use borrow.Author.Tests.{not-true, not-false}
 use Prim.Native.Nat.{ℕ, _<_, _≤_}

@@ -1,3 +1,4 @@
+-- What was written is no longer than the area (`written-fits`), so it can be lent; the claim joins what the two calls promise (`trial-recovered`).
 use Prim.Native.Nat.{_-_}
 use mathlib.Core.Path.{_≡_, subst}
 use borrow.Author.Needs.{needs}

@@ -1,3 +1,4 @@
+-- The product of two 16-bit numbers fits, so the left side needs no remainder.
 use mathlib.Core.Path.{ap}
 use mathlib.Core.Bool.{not}
 use Prim.Native.Nat.{ℕ, _*_}

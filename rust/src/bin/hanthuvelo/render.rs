@@ -66,11 +66,11 @@ impl Recovered {
         wrong.into_iter().filter_map(with_point).collect()
     }
 
-    /// Each row that is marked so, with its point.
-    fn marked_rows(&self, mark: Reading) -> Vec<(usize, u16)> {
+    /// Each row with this reading, with its point.
+    fn rows_with(&self, reading: Reading) -> Vec<(usize, u16)> {
         let rows = self.job.rows().iter().enumerate();
-        let marked = rows.filter(|(_, found)| found.reading == mark);
-        marked.map(|(row, found)| (row, found.point)).collect()
+        let found = rows.filter(|(_, row)| row.reading == reading);
+        found.map(|(place, row)| (place, row.point)).collect()
     }
 
     pub fn text(&self, place: &Place) -> String {
@@ -81,11 +81,11 @@ impl Recovered {
             text += &format!("  f{} = {fraction}\n", output + 1);
         }
         text += &rows_line("wrong rows", &self.wrong_rows());
-        for (name, mark) in [
+        for (name, reading) in [
             ("reported poles", Reading::Pole),
             ("silent rows", Reading::Silent),
         ] {
-            let rows = self.marked_rows(mark);
+            let rows = self.rows_with(reading);
             if !rows.is_empty() {
                 text += &rows_line(name, &rows);
             }
@@ -98,8 +98,8 @@ impl Recovered {
         let wrong = json_rows(&self.wrong_rows());
         let marks = match self.job.allows_marks() {
             true => {
-                let poles = json_rows(&self.marked_rows(Reading::Pole));
-                let silent = json_rows(&self.marked_rows(Reading::Silent));
+                let poles = json_rows(&self.rows_with(Reading::Pole));
+                let silent = json_rows(&self.rows_with(Reading::Silent));
                 format!(",\"poles\":{poles},\"silent\":{silent}")
             }
             false => String::new(),

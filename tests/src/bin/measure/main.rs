@@ -27,7 +27,7 @@ const GROWTH: [(usize, usize, usize); 6] = [
 ];
 
 const FULL: &str = "df 10, dg 8, E 6, 31 rows, 4 outputs";
-const LONGER: &str = "df 10, dg 8, E 6, 31 rows, 4 outputs, the longer header";
+const OWN_BOUNDS: &str = "df 10, dg 8, E 6, 31 rows, 4 outputs, the longer header";
 const SMALL: &str = "df 1, dg 0, E 1, 4 rows, 4 outputs";
 
 /// Microseconds for a job, one entry for each round; the least comes first.
@@ -57,16 +57,16 @@ fn main() {
     if cfg!(debug_assertions) {
         println!("NOT OPTIMISED: run with --release");
     }
-    let longer = Size {
-        header: HeaderForm::Longer,
+    let own_bounds = Size {
+        header: HeaderForm::OwnBounds,
         ..Size::FULL
     };
     let sizes = [
         (FULL, Size::FULL),
-        (LONGER, longer),
+        (OWN_BOUNDS, own_bounds),
         (SMALL, sized(GROWTH[0])),
     ];
-    let [full, longer, small] = sizes.map(|(_, size)| measure_all(size, JOBS));
+    let [full, own_bounds, small] = sizes.map(|(_, size)| measure_all(size, JOBS));
     println!(
         "library against plain Rust: full job {}, 4 rows {}",
         headline(&full),
@@ -76,7 +76,7 @@ fn main() {
     println!("microseconds for a job: best and middle of {ROUNDS} rounds ({SLOW_ROUNDS} of the second solver)");
     println!("one area of the answer's length for all calls of a round, not cleared between them");
     show(FULL, &full);
-    show(LONGER, &longer);
+    show(OWN_BOUNDS, &own_bounds);
     show(SMALL, &small);
     show_all_growth();
     println!("\nall implementations answered alike on every job");

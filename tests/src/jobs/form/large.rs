@@ -1,6 +1,6 @@
 //! Jobs of which one number is p or more.
 
-use super::sound::{fill_row, most_rows, sound_job, unmarked_job, Order, Turn};
+use super::sound::{fill_row, job_without_marks, most_rows, sound_job, Order, Turn};
 use super::FormJob;
 use crate::jobs::random::Random;
 use crate::layout::{HeaderForm, Job, PRIMES};
@@ -63,7 +63,7 @@ pub fn job(random: &mut Random, turn: &mut Turn) -> FormJob {
     let size = (large.prime_code, large.outputs, row_count);
     let mut job = match large.outputs {
         // A row whose only value is 65535 would be marked under the flag.
-        1 => unmarked_job(random, size, order).under(HeaderForm::Longer),
+        1 => job_without_marks(random, size, order).under(HeaderForm::OwnBounds),
         _ => sound_job(random, size, order),
     };
     let row = large.row(random, row_count);

@@ -62,7 +62,7 @@ pub fn sound_job(random: &mut Random, size: (usize, usize, usize), order: Order)
 }
 
 /// The same without marked rows, under any header.
-pub fn unmarked_job(random: &mut Random, size: (usize, usize, usize), order: Order) -> Job {
+pub fn job_without_marks(random: &mut Random, size: (usize, usize, usize), order: Order) -> Job {
     let mut job = sound_job(random, size, order);
     (0..job.rows.len()).for_each(|row| fill_row(random, &mut job, row));
     job

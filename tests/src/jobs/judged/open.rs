@@ -68,12 +68,12 @@ fn random_vector(random: &mut Random) -> Pair {
             break fraction;
         }
     };
-    let answer = marked(&job, &fraction);
+    let answer = with_its_word(&job, &fraction);
     Pair::new(job.pack(), answer.pack(&job), None)
 }
 
 /// A vector with the word of its wrong rows.
-fn marked(job: &Job, fraction: &Fraction) -> Answer {
+fn with_its_word(job: &Job, fraction: &Fraction) -> Answer {
     let listed = |polynomial: &Polynomial| polynomial.coefficients().to_vec();
     let denominator = listed(&fraction.denominator);
     let numerators: Vec<Vec<u32>> = fraction.numerators.iter().map(listed).collect();

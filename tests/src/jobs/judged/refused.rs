@@ -2,7 +2,7 @@
 
 use super::right::solvable;
 use super::Pair;
-use crate::jobs::added::Breach;
+use crate::jobs::broken_header::Breach;
 use crate::jobs::planted::Planted;
 use crate::jobs::random::Random;
 use crate::jobs::{Expected, GeneratedJob};
@@ -163,7 +163,7 @@ impl Planted {
             5 => numbers(&self.job).any(|(_, number)| number + prime <= HIGHEST),
             6 => self.job.rows.len() < MOST_ROWS,
             12 => self.job.header == HeaderForm::Flagged,
-            11 => self.job.header.is_longer(),
+            11 => self.job.header.has_own_bounds(),
             _ => true,
         }
     }

@@ -1,8 +1,8 @@
 //! Pairs whose offered answer is the job's.
 
 use super::Pair;
-use crate::jobs::marked::Marks;
 use crate::jobs::planted::{planted, Planted, Shape, WrongRows};
+use crate::jobs::planted_marks::Marks;
 use crate::jobs::random::Random;
 use crate::layout::{wrong_rows, Answer, Mark, PRIMES};
 use crate::second;

@@ -1,7 +1,7 @@
 //! Calls with faults: made to be refused for a given cause, damaged, or random.
 
 use super::{Draft, Spoiled, TrialCall};
-use crate::jobs::added::{Breach, Broken};
+use crate::jobs::broken_header::{Breach, Broken};
 use crate::jobs::faults::take_rows;
 use crate::jobs::planted::Shape;
 use crate::jobs::random::Random;

@@ -1,3 +1,4 @@
+-- A search among all numbers of the bytes; p is the prime, by what `modulus` promises.
 use Prim.Native.Nat.{ℕ, _-_, _*_, _/_}
 use mathlib.Core.Bool.{Bool}
 use mathlib.Core.List.{List}
@@ -21,9 +22,6 @@ Inv-loop bytes p count k₀ k = Searching (λ j. leb p (numberFrom bytes (2 * j)
 
 abbrev μ-loop : tie.MeasureT-loop
 μ-loop bytes p count k₀ k = count - k
-
-loop-holds : tie.Need-loop-holds Inv-loop μ-loop
-loop-holds c = search-start _ _
 
 -- p is the prime
 too-large-with : {p : ℕ} (b : Bounds) (s : List ℕ) {r : Bool} → p ≡ primeOf b → r ≡ anyBelow (length s / 2) (λ k. leb p (numberFrom s (2 * k))) → r ≡ anyTooLarge b s
@@ -52,7 +50,7 @@ any-too-large-spec =
     Inv-loop
     μ-loop
     (λ c κs. search needs)
-    loop-holds
+    (λ c. search-start _ _)
     (λ c. omega arith)
     (λ c κs. omega arith)
     returns

@@ -1,3 +1,4 @@
+-- Each way through the code is a case of `extendedOf`, whose tests stand in another order; where h is 1, the products by it change nothing (`one-extended`).
 use mathlib.Core.Path.{_≡_, sym, ap, _∙_}
 use Prim.Native.Nat.{ℕ, _+_, _<_}
 use native.Mathlib.Omega.{arith}

@@ -1,3 +1,4 @@
+-- The first j numerators are raised; a candidate without an answer stays as it is (`raised-stays`).
 use mathlib.Core.Path.{_≡_, ap, _∙_}
 use mathlib.Core.Logic.{⊎-elim}
 use Prim.Native.Nat.{ℕ, _-_, _≤_}
@@ -13,20 +14,11 @@ Inv-loop b i h lh r₀ j₀ r j = (j ≤ i) × (r ≡ raisedBelow b (h .c) j r�
 abbrev μ-loop : tie.MeasureT-loop
 μ-loop b i h lh r₀ j₀ r j = i - j
 
-loop-holds : tie.Need-loop-holds Inv-loop μ-loop
-loop-holds c = (omega arith, raised-none _ _ _, c .pre .1)
-
 raised-at-requires : tie.Need-raised-at-requires Inv-loop μ-loop
 raised-at-requires c κs =
     let L = c .before .before in
     let pre = L .before .pre in
     (pre .0, L .loop .inv .2, omega arith, pre .3, pre .4, pre .5)
-
-add-j : tie.Need-add-j Inv-loop μ-loop
-add-j c = omega arith
-
-loop-less : tie.Need-loop-less Inv-loop μ-loop
-loop-less c = omega arith
 
 loop-again : tie.Need-loop-again Inv-loop μ-loop
 loop-again c =
@@ -47,4 +39,4 @@ returns c =
 pub raised-spec : {M : Type 1} → statement M
 raised-spec =
     tie.close
-    (tie.spec Inv-loop μ-loop loop-holds raised-at-requires add-j loop-less loop-again returns)
+    (tie.spec Inv-loop μ-loop (λ c. (omega arith, raised-none _ _ _, c .pre .1)) raised-at-requires (λ c. omega arith) (λ c. omega arith) loop-again returns)

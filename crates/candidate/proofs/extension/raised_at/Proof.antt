@@ -1,3 +1,4 @@
+-- The tests are those of `raisedAt`; past them the product keeps to the bound (`bounded-raised`), also where the numerator is zero.
 use mathlib.Core.Path.{_∙_}
 use mathlib.Core.Logic.{⊎-elim}
 use Prim.Native.Nat.{_+_, _≤_, _<_}

@@ -1,3 +1,4 @@
+-- A field that ends within two bytes is a quotient of their number, and a remainder by the power of two that the shift makes (`field-of-pair`).
 use borrow.Author.Needs.{needs}
 use mathlib.Core.Path.{_≡_, refl, sym, _∙_}
 use Prim.Native.Nat.{ℕ, _*_, _%_, _^_, _≤_}

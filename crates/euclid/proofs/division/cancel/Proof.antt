@@ -1,5 +1,6 @@
+-- The entries from n on, below n + j, are cancelled. The others stay, and for them `cancelledAt` says so too.
 use lib.ListN.{getD}
-use mathlib.Core.Path.{_≡_, sym, ap₂, _∙_}
+use mathlib.Core.Path.{_≡_, refl, sym, ap₂, _∙_}
 use Prim.Native.Nat.{ℕ, _+_, _-_, _*_, _%_, _≤_}
 use native.Mathlib.Omega.{arith}
 use borrow.Author.Needs.{needs}
@@ -38,7 +39,7 @@ unfolding cancelledOf
 returns c =
     let pre = c .before .before .before .pre in
     let end : c .before .loop .j ≡ c .before .before .before .args .lb = omega arith in
-    (filled-all (c .before .loop .inv .1) (λ i l. cancelled-above _ _ _ _ _ (pre .3) i (pre .2 .residues i) (omega arith)), c .before .loop .inv .1 .size)
+    (refl, filled-all (c .before .loop .inv .1) (λ i l. cancelled-above _ _ _ _ _ (pre .3) i (pre .2 .residues i) (omega arith)), c .before .loop .inv .1 .size)
 
 pub cancel-spec : {M : Type 1} → statement M
 cancel-spec =

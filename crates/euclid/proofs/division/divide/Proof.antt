@@ -1,3 +1,4 @@
+-- `Progress`: the steps that are left, below `top`, lead to the quotient and the remainder. The leading coefficient of b is not zero, so its reciprocal exists.
 use mathlib.Core.Path.{_≡_, _∙_}
 use Prim.Native.Nat.{_≤_}
 use native.Mathlib.Omega.{arith}
@@ -57,8 +58,8 @@ loop-again c =
     let a = c .before .before .before .before in
     let s = a .before .before .before .before .before in
     let u = inverse-is (a .before .before .before) in (
-      progress-step (divisor s) u (s .args .a .c) (s .args .la) (a .loop .inv .0) (omega arith) (c .before .before .product .ensures) (c .cancel .ensures .0),
-      c .cancel .ensures .1,
+      progress-step (divisor s) u (s .args .a .c) (s .args .la) (a .loop .inv .0) (omega arith) (c .before .before .product .ensures) (c .cancel .ensures .1),
+      c .cancel .ensures .2,
     )
 
 returns : tie.Need-returns Inv-loop μ-loop

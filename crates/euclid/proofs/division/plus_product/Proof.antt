@@ -1,3 +1,4 @@
+-- A 32-bit number and the product of two others fit 64 bits together.
 use Rattle.field.proofs.Remainders.{product-fits}
 use Rattle.poly.proofs.Bounds.{product-plus-fits}
 use borrow.Author.Needs.{needs}

@@ -1,3 +1,4 @@
+-- The count is that of g's coefficients and those of the first i numerators, at most 32 for each polynomial.
 use Prim.Native.Nat.{_+_, _-_, _*_, _≤_}
 use mathlib.Core.Path.{_≡_, ap}
 use borrow.Author.Needs.{needs}

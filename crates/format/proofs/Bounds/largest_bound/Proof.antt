@@ -1,3 +1,4 @@
+-- `largest` is that of the first i bounds, and 0 where i is 0, as `largestBound` has it.
 use Prim.Native.Nat.{suc, _+_, _-_, _≤_}
 use mathlib.Core.Path.{_≡_, refl, ap, _∙_}
 use borrow.Author.Needs.{needs}

@@ -1,3 +1,4 @@
+-- By what tests 1 and 11 say: a refusal is theirs (`two-refused`), and past them (`two-passed`) the two comparisons are tests 3 and 4.
 use borrow.Author.Needs.{needs}
 use borrow.Author.Tests.{lt-ltb, le-ltb, eq-eqb, ne-eqb}
 use mathlib.Core.Bool.{Bool, true, false, not}

@@ -1,3 +1,4 @@
+-- By the outcome of the header's tests: a refusal is handed on, and past them the body is read (`outcome-by-header`).
 use borrow.Author.Needs.{needs}
 use Prim.Native.Nat.{ℕ}
 use mathlib.Core.List.{List}

@@ -1,23 +1,26 @@
+-- What the code tests on the arrays are the tests on the bytes (`first-out-of-range`, `table-outcome`); each branch then gives the outcome of the definition.
 use borrow.Author.Needs.{needs}
-use borrow.Author.Tests.{lt-ltb, le-ltb, eq-eqb, ne-eqb}
-use Prim.Native.Nat.{ℕ, _/_}
+use borrow.Author.Tests.{lt-ltb, le-ltb}
+use Prim.Native.Nat.{ℕ}
 use mathlib.Core.List.{List}
 use mathlib.Core.Logic.{_⊎_, inl, inr, ⊎-elim}
 use mathlib.Core.Path.{_≡_, refl, sym, ap, _∙_}
 use native.Mathlib.Omega.{arith}
 use denote.Ref.{now}
-use lib.Dec.{eqb}
+use lib.ListN.{getD}
 use Rattle.format.specs.Bounds.{answerLengthOf}
 use Rattle.format.specs.declared.Bounds.{Bounds}
 use Rattle.format.specs.declared.Reason.{Reason}
 use Rattle.format.specs.declared.Outcome.{Outcome}
 use Rattle.format.specs.declared.Outcome.the-variants.{Accepted, Refused}
 use Rattle.header.specs.declared.Header.{Header}
-use Rattle.header.specs.Header.{marksAllowed, boundsOf}
+use Rattle.header.specs.Header.{marksAllowed, boundsOf, rowsNeededOf}
 use Rattle.header.proofs.Fields.{fits-polynomials}
+use Rattle.marked_rows.proofs.Entries.{points-at}
 use Rattle.job.specs.declared.parsed_job.ParsedJob.{ParsedJob}
 use Rattle.job.specs.Refusals.{rowTests, outcomeOfRows}
 use Rattle.job.specs.ParsedJob.{parsedWith}
+use Rattle.job.proofs.ArrayTests.{first-out-of-range, table-outcome}
 use Rattle.job.proofs.Deciding.{rows-or-refused, rows-refused, at-7, accepted}
 use Rattle.job.proofs.parsed_job.read_body.Statement.{statement}
 use Rattle.job.proofs.parsed_job.read_body.Tie as tie
@@ -44,13 +47,13 @@ read-table-requires c κs =
     let rows = ap (λ (b : Bounds). b .rows) (bounds s) in
     let outputs = ap (λ (b : Bounds). b .outputs) (bounds s) in
     let start = ap (λ (x : Header). x .length) h in
-    let marks = ap (λ (x : Header). marksAllowed (x .flags)) h in
+    let marks = c .marks-allowed .ensures ∙ ap (λ (x : Header). marksAllowed (x .flags)) h in
     let fits-fields = s .pre .1 in
     ((fits-fields .length-most, fits-fields .bounds .rows-most, fits-fields .bounds .outputs-most, s .pre .2), (start, rows, outputs, marks))
 
 -- where the rows were read, and the entry, from where tests 5, 12 and 6 have run
 abbrev read : tie.After-check-table → tie.After-read-table
-read c = c .before .before .before .before .before
+read c = c .before .before .before .before .before .before .before .before .before
 
 abbrev start-of : tie.After-check-table → tie.Start
 start-of c = read c .before .before .before .before
@@ -58,8 +61,13 @@ start-of c = read c .before .before .before .before
 -- what they say
 checked : (c : tie.After-check-table) → c .check-table .result ≡ rowTests (bytes (start-of c)) Accepted
 checked c =
+    let s = bytes (start-of c) in
     let rows = read c .read-table .ensures in
-    c .check-table .ensures (bytes (start-of c)) (start-of c .pre .0) (rows .0) (rows .2) (rows .3)
+    let n = c .before .before in
+    let f = n .before in
+    let range = first-out-of-range s (bounds (start-of c)) (rows .0) (rows .2) (f .before .before .before .modulus .ensures) (f .first-out-of-range .ensures) in
+    table-outcome s (f .first-out-of-range .result) (read c .read-table .result .points) (ap (λ (b : Bounds). b .rows) (bounds (start-of c)))
+    (n .rows-needed .ensures ∙ ap rowsNeededOf (start-of c .pre .0)) range (λ e. rows .3) (λ e r l. ap (λ x. getD x r 0) (rows .0) ∙ points-at s r l) (c .check-table .ensures)
 
 returns : tie.Need-returns
 unfolding outcomeOfRows
@@ -119,7 +127,11 @@ pub read-body-spec : {M : Type 1} → statement M
 read-body-spec =
     tie.close
     (tie.spec
+    (λ c κs. search needs)
     read-table-requires
+    (λ c κs. search needs)
+    (λ c κs. search needs)
+    (λ c κs. search needs)
     (λ c κs. search needs)
     (λ c. search needs)
     (λ c κs. search needs)

@@ -1,3 +1,4 @@
+-- Both results are below p; the second is the definition's number less p (`difference-is`).
 use mathlib.Core.Path.{sym}
 use native.Mathlib.Nat.{mod-eq-of-lt}
 use native.Mathlib.Omega.{arith}

@@ -1,3 +1,4 @@
+-- Both polynomials are multiplied by (u - x), and the discrepancy at each x_l by x_l - x; all stay residues.
 use mathlib.Core.Path.{ap}
 use Prim.Native.Nat.{_+_}
 use Rattle.montgomery.specs.declared.Factor.{Factor}

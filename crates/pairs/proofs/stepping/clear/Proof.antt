@@ -1,3 +1,4 @@
+-- Without a discrepancy the pair stays; else its three arrays are combined with those of the leading pair, each time by the two discrepancies as factors.
 use mathlib.Core.Path.{refl, _∙_}
 use mathlib.Core.Logic.{inl, inr}
 use Rattle.field.proofs.Moduli.{modulus-small}

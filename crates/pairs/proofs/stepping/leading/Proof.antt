@@ -1,3 +1,4 @@
+-- A pair leads only with a discrepancy, and the numbers of the pairs decide where both have one.
 use borrow.Author.Tests.{le-leb, lt-leb}
 use Rattle.pairs.proofs.stepping.leading.Statement.{statement}
 use Rattle.pairs.proofs.stepping.leading.Tie as tie

@@ -16,9 +16,6 @@ Inv-loop q a la b lb r₀ k₀ r k = (k ≤ la + lb - 1) × Filled 32 (λ j. pro
 abbrev μ-loop : tie.MeasureT-loop
 μ-loop q a la b lb r₀ k₀ r k = la + lb - k
 
-loop-holds : tie.Need-loop-holds Inv-loop μ-loop
-loop-holds c = (omega arith, filled-none 32 _ _ (c .zero .ensures))
-
 product-coefficient-requires : tie.Need-product-coefficient-requires Inv-loop μ-loop
 product-coefficient-requires c κs =
     let pre = c .before .before .before .pre in
@@ -43,7 +40,7 @@ product-spec =
     Inv-loop
     μ-loop
     (λ c κs. search needs)
-    loop-holds
+    (λ c. (omega arith, filled-none 32 _ _ (c .zero .ensures)))
     (λ c. omega arith)
     (λ c. omega arith)
     product-coefficient-requires

@@ -17,9 +17,6 @@ Inv-loop q n c a r₀ k₀ r k = (k ≤ n) × Filled 32 (scaledAt (modulusOf q) 
 abbrev μ-loop : tie.MeasureT-loop
 μ-loop q n c a r₀ k₀ r k = n - k
 
-loop-holds : tie.Need-loop-holds Inv-loop μ-loop
-loop-holds c = (omega arith, filled-none 32 _ _ (c .zero .ensures))
-
 loop-again : tie.Need-loop-again Inv-loop μ-loop
 unfolding scaledAt
 loop-again c =
@@ -41,7 +38,7 @@ scaled-spec =
     Inv-loop
     μ-loop
     (λ c κs. search needs)
-    loop-holds
+    (λ c. (omega arith, filled-none 32 _ _ (c .zero .ensures)))
     (λ c. omega arith)
     (λ c. omega arith)
     (λ c κs. search needs)

@@ -1,3 +1,4 @@
+-- By recursion on the number: one digit, or the digits of its tenth and then the last (`digit-last`, `digit-more`).
 use mathlib.Core.Path.{sym, ap, _∙_}
 use mathlib.Core.List.{[], _∷_}
 use Rattle.text.specs.Drafts.{held, extended}

@@ -1,3 +1,4 @@
+-- Searching below d gives what searching below the bound gives, since the coefficients above d are 0.
 use Prim.Native.Nat.{_≤_}
 use mathlib.Core.Path.{_≡_, refl, sym, _∙_}
 use Rattle.text.specs.Lines.{coefficientFrom, degreeWithin}

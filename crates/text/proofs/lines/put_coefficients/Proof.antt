@@ -1,3 +1,4 @@
+-- After k turns the first k coefficients are put, each behind a blank.
 use Prim.Native.Nat.{_-_, _≤_}
 use mathlib.Core.Path.{_≡_, sym, ap, _∙_}
 use lib.ListN.{length}

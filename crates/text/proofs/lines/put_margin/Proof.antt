@@ -1,3 +1,4 @@
+-- Label, number and line feed are put one behind the other (`put-both`).
 use mathlib.Core.List.{_++_}
 use borrow.Author.Needs.{needs}
 use Rattle.text.specs.Drafts.{held}

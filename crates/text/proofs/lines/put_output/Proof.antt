@@ -1,3 +1,4 @@
+-- Label, number and coefficients are put one behind the other (`put-both`).
 use Prim.Native.Nat.{suc, _+_}
 use mathlib.Core.List.{_++_}
 use native.Mathlib.Nat.{lt-suc-self}

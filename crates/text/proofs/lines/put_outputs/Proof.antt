@@ -1,3 +1,4 @@
+-- The lines of the first i outputs are put, and `start` is where the answer's bytes have output i.
 use Prim.Native.Nat.{_+_, _-_, _*_, _≤_, _<_}
 use mathlib.Core.Path.{_≡_, refl, sym, ap, ap₂, _∙_}
 use lib.ListN.{length}

@@ -1,3 +1,4 @@
+-- The coefficients up to the degree, and the line feed, are put one behind the other (`put-both`).
 use Prim.Native.Nat.{_+_}
 use mathlib.Core.Path.{ap, _∙_}
 use Rattle.text.specs.Drafts.{held, extended}

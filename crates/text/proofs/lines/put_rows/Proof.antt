@@ -1,3 +1,4 @@
+-- What is put already and the rows of the bits that are left make the rows of the whole word; taking away the first set bit takes away its row (`next-rows`).
 use Prim.Native.Nat.{_-_, _^_, _<_}
 use mathlib.Core.Path.{_≡_, refl, sym, ap, _∙_}
 use mathlib.Core.List.{[], _++_}

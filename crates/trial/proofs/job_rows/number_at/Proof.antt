@@ -1,3 +1,4 @@
+-- By the column: the point, the first value with what is added to it, another value. The sum fits since both are below p.
 use Prim.Native.Nat.{_+_, _-_, _%_}
 use mathlib.Core.Path.{_≡_, ap₂}
 use borrow.Author.Needs.{needs}

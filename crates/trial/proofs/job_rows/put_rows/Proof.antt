@@ -1,3 +1,4 @@
+-- The first k numbers of the rows stand from `start` on, and 2 k bytes are written: number j is that of row j / width and column j % width.
 use Prim.Native.Nat.{_+_, _-_, _*_, _/_, _%_, _≤_}
 use mathlib.Core.Path.{_≡_, refl, sym, ap, _∙_}
 use native.Mathlib.Nat.{mod-lt}
@@ -15,12 +16,12 @@ use Rattle.trial.proofs.job_rows.put_rows.Statement.{statement}
 use Rattle.trial.proofs.job_rows.put_rows.Tie as tie
 
 abbrev Inv-loop : tie.InvT-loop
-Inv-loop area₀ start g f by prime width count next₀ k₀ area next k =
-    (k ≤ count) × (length area ≡ length area₀) × (next ≡ start + 2 * k)
+Inv-loop area₀ start g f by prime width count written₀ k₀ area written k =
+    (k ≤ count) × (length area ≡ length area₀) × (written ≡ 2 * k)
     × (area ≡ spliced start (coefficientBytes (tabulate count (λ j. trialNumber (modulusOf prime) (coefficientsAt f) (g .c) (λ i. getD by i 0) (j / width) (j % width))) k) area₀)
 
 abbrev μ-loop : tie.MeasureT-loop
-μ-loop area₀ start g f by prime width count next₀ k₀ area next k = count - k
+μ-loop area₀ start g f by prime width count written₀ k₀ area written k = count - k
 
 loop-holds : tie.Need-loop-holds Inv-loop μ-loop
 unfolding coefficientBytes
@@ -44,16 +45,13 @@ loop-again c =
     let k = l .loop .k in
     let width = 1 + g .b .outputs in
     let number = c .before .before .before .before .number-at in
-    let room : l .loop .next ≤ length (g .area .now) = omega arith in (
+    let room : g .start + l .loop .written ≤ length (g .area .now) = omega arith in (
       omega arith,
       r .kept .0 ∙ l .loop .inv .1,
       omega (arith, r .ensures .0),
       next-number (λ j. trialNumber (modulusOf (g .b .prime)) (coefficientsAt (g .f)) (g .g .c) (λ i. getD (g .by .now) i 0) (j / width) (j % width))
-          (g .b .rows * width) (g .start) k (l .loop .next) (number .result) (g .area .now) (l .loop .area) (r .last .0) (omega arith) (number .ensures) (l .loop .inv .2) room (l .loop .inv .3) (r .ensures .1),
+          (g .b .rows * width) (g .start) k (l .loop .written) (number .result) (g .area .now) (l .loop .area) (r .last .0) (omega arith) (number .ensures) (l .loop .inv .2) room (l .loop .inv .3) (r .ensures .1),
     )
-
-same-length : tie.Need-same-length Inv-loop μ-loop
-same-length c = c .before .loop .inv .1
 
 returns : tie.Need-returns Inv-loop μ-loop
 unfolding trialNumbers
@@ -74,9 +72,11 @@ put-rows-spec =
     (λ c. omega arith)
     (λ c. omega arith)
     number-at-requires
+    (λ c. omega arith)
     (λ c κs. omega arith)
     (λ c. omega arith)
     (λ c. omega arith)
+    (λ c. omega arith)
     loop-again
-    same-length
+    (λ c. c .before .loop .inv .1)
     returns)

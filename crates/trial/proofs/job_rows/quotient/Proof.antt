@@ -1,3 +1,4 @@
+-- At a pole 0; else the product with the reciprocal is what the search of the definition finds (`quotient-found`).
 use mathlib.Core.Path.{sym, ap, _∙_}
 use borrow.Author.Needs.{needs}
 use borrow.Author.Tests.{eq-eqb, ne-eqb}

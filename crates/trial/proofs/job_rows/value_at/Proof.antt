@@ -1,3 +1,4 @@
+-- All 32 points are x, so the value wanted is that of the first row.
 use mathlib.Core.Path.{ap, _∙_}
 use borrow.Author.Needs.{needs}
 use native.Mathlib.Omega.{arith}
