@@ -6,7 +6,7 @@
  * are none. It also says how far off the next answer is, checks the form of jobs alone, writes trial jobs, whose result is
  * known, from such fractions, judges answers that others computed, and gives reciprocals modulo p.
  *
- * After `bash install PREFIX`, pkg-config knows the flags as `hanthuvelo`. Without it link
+ * After `./install PREFIX`, pkg-config knows the flags as `hanthuvelo`. Without it link
  * target/staticlib/libcapi.a, which `rt staticlib capi` writes. The archive is for x86-64 Linux and needs nothing
  * beside the C library. What a function promises is its contract in crates/capi/src/lib.rt, which is proved.
  */

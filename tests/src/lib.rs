@@ -4,11 +4,13 @@
 #![forbid(unsafe_code)]
 
 pub mod compared;
+pub mod crate_table;
 pub mod crates;
 pub mod definition;
 pub mod jobs;
 pub mod ladder;
 pub mod layout;
+pub mod pages;
 pub mod paper;
 pub mod plain;
 pub mod program;

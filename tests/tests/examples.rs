@@ -45,7 +45,7 @@ fn the_files_of_the_paper_pack_into_its_bytes() {
 #[test]
 fn every_file_has_its_printed_text() {
     let names = names();
-    assert_eq!(names.len(), 18);
+    assert_eq!(names.len(), 19);
     for form in HeaderForm::ALL {
         let has_form = |name: &String| HeaderForm::of(&packed(&format!("{name}.job"))) == form;
         assert!(names.iter().any(has_form), "{form:?}");

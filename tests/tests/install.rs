@@ -29,8 +29,8 @@ fn output(command: &mut Command) -> String {
 }
 
 fn install(prefix: &str) -> Command {
-    let mut command = Command::new("bash");
-    command.arg("install").arg(prefix).current_dir(ROOT);
+    let mut command = Command::new(format!("{ROOT}/install"));
+    command.arg(prefix).current_dir(ROOT);
     command
 }
 
@@ -105,6 +105,6 @@ fn a_prefix_is_asked_for() {
         command.arg("install").args(words).current_dir(ROOT);
         let output = command.output().expect("bash");
         assert_eq!(output.status.code(), Some(2), "{words:?}");
-        assert_eq!(output.stderr, b"usage: bash install PREFIX\n", "{words:?}");
+        assert_eq!(output.stderr, b"usage: ./install PREFIX\n", "{words:?}");
     }
 }

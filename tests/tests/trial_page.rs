@@ -2,6 +2,7 @@
 
 use hanthuvelo::{hex, readable, Written};
 use outside_checks::layout::value_at;
+use outside_checks::pages::tables::table;
 use outside_checks::second::next_word;
 use outside_checks::{implementations, writers};
 use std::fs;
@@ -24,18 +25,6 @@ fn said(page: &str, label: &str) -> String {
 
 fn bytes(page: &str, label: &str) -> Vec<u8> {
     hex::bytes(&said(page, label)).unwrap_or_else(|error| panic!("{label}: {error}"))
-}
-
-/// The cells of the table whose first heading is this one, without its headings.
-fn table(page: &str, heading: &str) -> Vec<Vec<String>> {
-    let start = format!("| {heading} |");
-    let lines = page.lines().skip_while(|line| !line.starts_with(&start));
-    let rows = lines.skip(2).take_while(|line| line.starts_with('|'));
-    let cells = |row: &str| -> Vec<String> {
-        let cells = row.trim_matches('|').split('|');
-        cells.map(|cell| cell.trim().to_string()).collect()
-    };
-    rows.map(cells).collect()
 }
 
 fn number(text: &str) -> u32 {

@@ -1,1 +1,1 @@
-// Mathematics only: the modules are under proofs/.
+// Rings, fields and polynomials over them: degrees, division, Euclid's rule, roots, lowest terms. Mathematics only.

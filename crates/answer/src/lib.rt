@@ -1,4 +1,4 @@
-// Paper 01, "The recovered sheet": an answer written as bytes.
+// An answer as bytes, written and read (paper 01, "The recovered sheet").
 pub mod coefficients;
 
 pub use coefficients::Vector;

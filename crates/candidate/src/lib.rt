@@ -1,5 +1,5 @@
-// docs/METHOD.md, section 2: the outputs one after the other. After each one the candidate holds the only fractions, over their common denominator,
-// that an answer can have there; or it is known that there is no answer.
+// The outputs one after the other: the only fractions over one denominator that an answer can have, or that there is no answer.
+// docs/METHOD.md, section 2, has the argument.
 mod extension;
 mod vector;
 

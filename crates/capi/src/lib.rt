@@ -1,4 +1,4 @@
-// The library's exported functions, for callers in C and Rust. include/hanthuvelo.h declares them.
+// The library's exported functions, for callers in C and Rust; include/hanthuvelo.h declares them.
 ghost use mathlib.Core.Path.{_≡_};
 ghost use Rattle.form_check.specs.Reports.{formReportOf};
 ghost use Rattle.format.specs.Outcomes.{writingReportOf};

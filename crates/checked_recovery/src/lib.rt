@@ -1,4 +1,4 @@
-// Paper 02, item 4: what the check for form says beside the recovery of the same job.
+// Paper 02, item 4, over two calls: a job is checked for form and recovered.
 ghost use Rattle.format.specs.Outcomes.{reportOf};
 ghost use Rattle.checked_recovery.specs.CheckedRecovery.{CheckedRecovery};
 use format::Outcome;

@@ -1,4 +1,4 @@
-// Paper 02, item 5: the same job under the short header and under the longer one.
+// Paper 02, item 5, over two calls: the same job is recovered under the short header and under the longer one.
 ghost use Rattle.format.specs.Outcomes.{reportOf};
 ghost use Rattle.either_header.specs.EitherHeader.{EitherHeader};
 use format::Outcome;

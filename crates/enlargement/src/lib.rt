@@ -1,4 +1,4 @@
-// The enlargement rule: what the answer of one job says of the answer of another that holds its rows and more.
+// Demand 3, the enlargement rule: what the answer of one job says of the answer of another that holds its rows and more.
 ghost use Rattle.format.specs.Outcomes.{reportOf};
 ghost use Rattle.enlargement.specs.Enlargement.{TwoCalls};
 use format::Outcome;

@@ -1,4 +1,5 @@
-// The greatest common divisor of polynomials modulo one of the four primes. A length is the degree plus 1, and 0 for the zero polynomial.
+// Division with remainder and the greatest common divisor of polynomials modulo one of the four primes.
+// A length is the degree plus 1, and 0 for the zero polynomial.
 pub mod division;
 
 pub use division::Division;

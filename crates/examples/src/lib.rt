@@ -1,1 +1,1 @@
-// Mathematics only: the table of paper 01's examples is under specs/, its one claim is shown under proofs/.
+// Tables of examples with a claim each: H1 to H12, answers offered for them, jobs that meet demand 3, margins that are attained. No code.

@@ -1,5 +1,5 @@
-// Paper 02, item 4: jobs checked for form only. Whether one of tests 1, 11, 3, 4, 5, 12 and 6 refuses a job, without an answer area, and with no more of
-// its rows kept than their points.
+// Paper 02, item 4: jobs checked for form only, by the tests 1, 11, 3, 4, 5, 12 and 6.
+// There is no answer area, and no more of a job's rows is kept than their points.
 ghost use Prim.Native.Nat.{_<_, _≤_};
 ghost use mathlib.Core.Bool.{true, false, _||_};
 ghost use mathlib.Core.Path.{_≡_};

@@ -1,4 +1,4 @@
-// What a job's header fixes, and what a call answers.
+// What a job's header fixes, its bounds, and what a call answers: refusals, outcomes and reports.
 ghost use Prim.Native.Nat.{_≤_, _<_};
 ghost use mathlib.Core.Bool.{cond};
 ghost use mathlib.Core.Path.{_≡_};

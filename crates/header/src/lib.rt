@@ -1,4 +1,4 @@
-// A job's header: its fields, and the lengths that they fix.
+// A job's header, short or longer: its fields, and the lengths that they fix.
 ghost use Prim.Native.Nat.{_+_, _*_, _≤_};
 ghost use mathlib.Core.Bool.{cond};
 ghost use mathlib.Core.Path.{_≡_};

@@ -1,4 +1,5 @@
-// docs/METHOD.md, section 1: two pairs of polynomials, one row at a time. After the rows one of the pairs is (a, b), not both zero, with
+// One output under all rows: a pair of polynomials that meets the condition of every row, found one row at a time.
+// docs/METHOD.md, section 1: there are two pairs, and after the rows one of them is (a, b), not both zero, with
 // c a(x) = z b(x) at every row (x, z) of weight c, a of degree at most A and b of degree at most B, where A + B + 1 rows at most ask something.
 // The discrepancies c a(x) - z b(x) of both pairs are kept for all rows and changed as the pairs are, so that no polynomial is evaluated.
 ghost use Prim.Native.Nat.{ℕ, _+_, _-_, _%_, _≤_, _<_};

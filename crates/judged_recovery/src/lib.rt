@@ -1,4 +1,4 @@
-// Paper 02, item 3: what the judge says beside the recovery of the same job.
+// Paper 02, item 3, over two calls: a job is recovered, and an answer offered for it is judged.
 ghost use Rattle.format.specs.Outcomes.{reportOf};
 ghost use Rattle.offered_answer.specs.Judgements.{judgementReportOf};
 ghost use Rattle.judged_recovery.specs.JudgedRecovery.{JudgedRecovery};

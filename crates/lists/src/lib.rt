@@ -1,4 +1,4 @@
-// Definitions and laws of lists of numbers and of truth values that no other crate owns.
+// Lists that a function gives, searching, counting and overwriting, with their laws, which no other crate owns. No code.
 
 // What a search finds: the first place that it looks for, if there is one.
 pub enum Found {

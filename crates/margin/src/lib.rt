@@ -1,4 +1,4 @@
-// Paper 02, item 7: the margin. Of a job with so many wrong rows, by how many the rows that speak pass df + dg + 2 W.
+// Paper 02, item 7: the margin of a job and a number of wrong rows, and a job recovered with the margin of its answer.
 pub mod recovered;
 
 pub use recovered::Measured;

@@ -1,4 +1,4 @@
-// Paper 02, item 6: rows that report a pole and rows that are silent; and all rows of a job by the conditions that they put.
+// Paper 02, item 6: rows that report a pole and rows that are silent, and all rows of a job by the conditions that they put.
 ghost use Prim.Native.Nat.{_+_, _*_, _<_, _≤_};
 ghost use mathlib.Core.Path.{_≡_};
 ghost use lib.ListN.{length, getD};

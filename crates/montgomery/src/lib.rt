@@ -1,4 +1,4 @@
-// The constants and factors of Montgomery's reduction (`reduction`) for the four primes.
+// Products of residues in 16 bits by Montgomery's reduction (`reduction`), with the constants and factors of the four primes.
 pub mod reduction;
 
 pub use reduction::difference;

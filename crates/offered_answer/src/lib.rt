@@ -1,5 +1,4 @@
-// Paper 02, item 3: an answer that somebody offers for a job is judged, without recovering the job. (The crate `wrong_rows` says which rows are
-// wrong for a vector.)
+// Paper 02, item 3: whether bytes that somebody offers are a job's answer, found without recovering the job.
 ghost use Prim.Native.Nat.{_≤_};
 ghost use mathlib.Core.Path.{_≡_};
 ghost use mathlib.Core.Bool.{true};

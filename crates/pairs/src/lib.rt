@@ -1,4 +1,4 @@
-// docs/METHOD.md, section 1: a pair of polynomials, and, in specs/, what each row does to two of them.
+// A pair of polynomials, and what one row does to two of them (docs/METHOD.md, section 1).
 pub mod stepping;
 
 use poly::Poly;

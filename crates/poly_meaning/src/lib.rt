@@ -1,1 +1,1 @@
-// Mathematics only: the modules are under proofs/.
+// What the code's polynomials, their division and their greatest common divisor mean in the polynomial ring. Proofs only.

@@ -1,4 +1,4 @@
-// Paper 01, "The printing program": reads one job from standard input and prints what the recovery finds.
+// The printing program of paper 01: reads one job from standard input and prints what the recovery finds.
 ghost use Prim.Native.Nat.{_≤_};
 ghost use lib.ListN.{length};
 ghost use Rattle.print.specs.Printed.{Printed};

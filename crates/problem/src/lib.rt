@@ -1,1 +1,1 @@
-// What an answer of a job is: definitions, and the laws that need nothing of the method. No code.
+// What an answer of a job is: right and wrong rows, reduced vectors, the answer and its bytes, with nothing of the method. No code.

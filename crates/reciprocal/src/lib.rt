@@ -1,4 +1,4 @@
-// Reciprocals modulo the four primes: for 257 from a table, for the others computed.
+// Reciprocals modulo the four primes, and that zero has none: for 257 from a table, for the others computed.
 ghost use Prim.Native.Nat.{_%_, _<_};
 ghost use mathlib.Core.Path.{_≡_};
 ghost use Rattle.field.specs.Primes.{modulusOf};

@@ -1,4 +1,4 @@
-// The recovery: a job's bytes in, the reduced vector and exactly its wrong rows out, or a numbered refusal.
+// Demands 1 and 2: a job's bytes in, the reduced vector and exactly its wrong rows out, or a numbered refusal.
 ghost use Rattle.format.specs.Outcomes.{reportOf};
 ghost use Rattle.recovery.specs.Recovery.{Settled};
 use format::Outcome;

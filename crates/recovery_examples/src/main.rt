@@ -1,8 +1,9 @@
-// Recovers the jobs of the file stdin: a line each, the name, what the call returns, and the memory that the area lies in, 20 bytes that
-// held A5 before. They are paper 01's H1 to H12, some of them also in longer areas; its refusals; the first bytes of H1's job; jobs with
-// two faults, of which the first in the order of the tests counts; numbers at a prime and below it; no rows, and eight of them modulo 7; the
-// longest job with the short header, 313 bytes (code 3, four outputs, 31 rows with the points 0 to 30, all values but the last 0), and one byte
-// more; with the longer header some of these, bounds that differ, each rule broken, and 317 bytes; and with its first flag rows that report a pole,
+// A program that recovers the jobs of a file that people can read (`stdin`): H1 to H12, paper 01's refusals, jobs at the edges.
+// It prints a line for each: the name, what the call returns, and the memory that the area lies in, 20 bytes that held A5 before. Some of H1 to
+// H12 are there in longer areas too. Besides: the first bytes of H1's job; jobs with two faults, of which the first in the order of the tests
+// counts; numbers at a prime and below it; no rows, and eight of them modulo 7; the longest job with the short header, 313 bytes (code 3, four
+// outputs, 31 rows with the points 0 to 30, all values but the last 0), and one byte more; with the longer header some of these, bounds that
+// differ, each rule broken, and 317 bytes; and with its first flag rows that report a pole,
 // rightly and not, silent rows, too few rows that speak beside other faults, rows that are marked in part, and marks without the flag.
 // A line of the file has a name, a colon, the length of the answer area, and the job's bytes with a space before each. The length and
 // each byte are two hex digits.

@@ -1,4 +1,4 @@
-// Paper 01, "The object": whether numerators f1, .., fn over g are reduced, decided by Euclid's rule.
+// Whether numerators f1, .., fn over g are reduced, decided by Euclid's rule over all of them (paper 01, "The object").
 ghost use Prim.Native.Nat.{ℕ, _≤_, _<_};
 ghost use mathlib.Core.Path.{_≡_};
 ghost use mathlib.Core.Bool.{true};

@@ -1,4 +1,4 @@
-// Paper 01, "The recovered sheet": the word of wrong rows.
+// The word of wrong rows (paper 01, "The recovered sheet").
 ghost use Prim.Native.Nat.{_+_, _-_, _^_, _<_};
 ghost use mathlib.Core.Path.{_≡_};
 ghost use Rattle.row_mask.specs.Word.{withRow, wrongCountOf, firstWrongOf};

@@ -1,4 +1,4 @@
-// The rows that refusals 5 and 6 speak of.
+// The first rows that refusals 5 and 6 speak of.
 ghost use Prim.Native.Nat.{_+_, _*_, _<_, _≤_};
 ghost use mathlib.Core.Bool.{true, _||_};
 ghost use mathlib.Core.Path.{_≡_};

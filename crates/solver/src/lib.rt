@@ -1,4 +1,4 @@
-// The solver: from the table of a job's rows, the vector for which at most E rows are wrong, if there is one.
+// From the table of a job's rows the vector for which at most E rows are wrong, or that there is none.
 ghost use mathlib.Core.Path.{_≡_};
 ghost use Rattle.format.specs.Bounds.{EnoughRows};
 ghost use Rattle.candidate.specs.Candidates.{RowsInRange};

@@ -1,1 +1,1 @@
-// Proofs only: what the definitions that mirror the code mean in the method over a field.
+// That the solver's candidate is the answer and the only one: what the code's definitions mean in the method over a field. Proofs only.

@@ -1,4 +1,4 @@
-// Paper 01, "The printing program": the printed text, made in a lent buffer.
+// The text that the printing program prints, made in a lent buffer (paper 01, "The printing program").
 mod draft;
 mod lines;
 

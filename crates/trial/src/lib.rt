@@ -1,5 +1,4 @@
-// Paper 02, item 1: trial jobs, whose answer is known. A job is written from a header, the coefficients of g and the f's, a start and the
-// number of rows to be spoiled.
+// Paper 02, item 1: trial jobs, whose answer is known, written from a header, coefficients, a start and the number of rows to be spoiled.
 mod job_rows;
 
 ghost use Prim.Native.Nat.{ℕ, _+_, _*_, _≤_, _<_};

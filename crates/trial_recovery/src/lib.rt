@@ -1,4 +1,4 @@
-// Paper 02, item 1: what recovery makes of a trial job.
+// Paper 02, item 1, over two calls: a trial job is written and recovered.
 ghost use mathlib.Core.Path.{_≡_};
 ghost use Rattle.format.specs.Outcomes.{reportOf, writingReportOf};
 ghost use Rattle.trial_recovery.specs.TrialRecovery.{TrialRecovered};

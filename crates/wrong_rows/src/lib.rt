@@ -1,4 +1,4 @@
-// Paper 01, "The object", and paper 02, item 6: which rows of a table are wrong for an answer.
+// Which rows of a table are wrong for an answer (paper 01, "The object", and paper 02, item 6).
 ghost use lib.ListN.{getD};
 ghost use Prim.Native.Nat.{ℕ, _+_, _*_, _%_, _≤_, _<_};
 ghost use mathlib.Core.Path.{_≡_};

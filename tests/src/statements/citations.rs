@@ -1,6 +1,7 @@
 //! The theorems that `docs/METHOD.md` cites, and what the crates' remarks cite.
 
 use super::antt;
+use crate::pages::names::ENDINGS;
 use std::fs;
 use std::path::Path;
 
@@ -10,9 +11,14 @@ pub const METHOD: &str = "docs/METHOD.md";
 /// The citations of a text: code of the form `crate/File.theorem`, for `crates/crate/proofs/File.antt`.
 pub fn citations(text: &str) -> Vec<String> {
     let code = text.split('`').skip(1).step_by(2);
-    code.filter(|code| parts(code).is_some())
+    code.filter(|code| is_citation(code))
         .map(str::to_string)
         .collect()
+}
+
+/// Whether code is a citation.
+pub fn is_citation(code: &str) -> bool {
+    parts(code).is_some()
 }
 
 /// The file of a citation and the theorem's name.
@@ -20,7 +26,7 @@ fn parts(citation: &str) -> Option<(String, &str)> {
     let (owner, rest) = citation.split_once('/')?;
     let (file, theorem) = rest.split_once('.')?;
     let plain = |text: &str| !text.is_empty() && !text.contains(char::is_whitespace);
-    let ending = ["antt", "rt", "md", "h", "rs"].contains(&theorem);
+    let ending = ENDINGS.contains(&theorem);
     let citation = plain(owner) && plain(file) && plain(theorem) && !ending;
     citation.then(|| (format!("crates/{owner}/proofs/{file}.antt"), theorem))
 }

@@ -1,6 +1,7 @@
 //! The page: its blocks, each with the file that it names, and the entries of its key.
 
 use super::{antt, source, Item};
+use crate::pages::tables::cells;
 use std::collections::BTreeSet;
 use std::fs;
 use std::path::Path;
@@ -145,15 +146,4 @@ fn key_words(lines: &[&str]) -> BTreeSet<String> {
         }
     }
     words
-}
-
-/// The cells of a table's line; `\|` stands for a bar inside one.
-fn cells(line: &str) -> Vec<String> {
-    const BAR: &str = "\u{1}";
-    let Some(line) = line.strip_prefix('|') else {
-        return Vec::new();
-    };
-    let line = line.replace("\\|", BAR);
-    let cells = line.trim_end().trim_end_matches('|').split('|');
-    cells.map(|cell| cell.trim().replace(BAR, "|")).collect()
 }

@@ -1,5 +1,5 @@
-//! Writes the bytes of a readable job; the library is not needed for that:
-//! `cargo run --no-default-features --example pack -- FILE`.
+//! Writes the bytes of a readable job, as `hanthuvelo pack` does, but without the library, so that nothing has to be proved for it:
+//! `cargo run --release --no-default-features --bin pack-job -- FILE`.
 
 use hanthuvelo::readable;
 use std::io::Write;
@@ -8,7 +8,7 @@ use std::process::ExitCode;
 fn main() -> ExitCode {
     let packed = match std::env::args_os().nth(1) {
         Some(file) => pack(&file),
-        None => Err("usage: pack FILE".to_string()),
+        None => Err("usage: pack-job FILE".to_string()),
     };
     let written = packed.and_then(|bytes| {
         let written = std::io::stdout().write_all(&bytes);
