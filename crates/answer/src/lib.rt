@@ -1,4 +1,6 @@
 // An answer as bytes, written and read (paper 01, "The recovered sheet").
+#![tactic(auto)]
+
 pub mod coefficients;
 
 ghost use Rattle.std.specs.Prelude.{◌+◌, ◌*◌, ◌≤◌, ◌≡◌, length};

@@ -1,5 +1,7 @@
 // The outputs one after the other: the only fractions over one denominator that an answer can have, or that there is no answer.
 // docs/METHOD.md, section 2, has the argument.
+#![tactic(auto)]
+
 mod extension;
 mod vector;
 

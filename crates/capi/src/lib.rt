@@ -1,4 +1,6 @@
 // The library's exported functions, for callers in C and Rust; include/hanthuvelo.h declares them.
+#![tactic(auto)]
+
 ghost use Rattle.std.specs.Prelude.{◌≡◌};
 ghost use Rattle.form_check.specs.Reports.{form_report_of};
 ghost use Rattle.format.specs.Outcomes.{writing_report_of};

@@ -1,4 +1,6 @@
 // Paper 02, item 4, over two calls: a job is checked for form and recovered.
+#![tactic(auto)]
+
 ghost use Rattle.format.specs.Outcomes.{report_of};
 ghost use Rattle.checked_recovery.specs.CheckedRecovery.{CheckedRecovery};
 

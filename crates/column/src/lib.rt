@@ -1,4 +1,6 @@
 // The right-hand sides of one output's conditions: the values of its numerator over the denominator found so far.
+#![tactic(auto)]
+
 ghost use Rattle.std.specs.Prelude.{get_or, ℕ, ◌+◌, ◌≤◌, ◌<◌, not, ◌&&◌, ◌≡◌, eqb};
 ghost use Rattle.format.specs.Bounds.{EnoughRows};
 ghost use Rattle.lists.specs.Counting.{one_if};

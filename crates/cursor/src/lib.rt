@@ -1,4 +1,6 @@
 // A header's bits, most significant first, whatever the number of its bytes.
+#![tactic(auto)]
+
 ghost use Rattle.std.specs.Prelude.{◌+◌, ◌%◌, ◌^◌, ◌<◌, ◌≤◌, ◌≡◌, get_or};
 ghost use Rattle.cursor.specs.Bits.{field_of};
 

@@ -1,4 +1,6 @@
 // Paper 02, item 5, over two calls: the same job is recovered under the short header and under the longer one.
+#![tactic(auto)]
+
 ghost use Rattle.format.specs.Outcomes.{report_of};
 ghost use Rattle.either_header.specs.EitherHeader.{EitherHeader};
 

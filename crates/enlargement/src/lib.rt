@@ -1,4 +1,6 @@
 // Demand 3, the enlargement rule: what the answer of one job says of the answer of another that holds its rows and more.
+#![tactic(auto)]
+
 ghost use Rattle.format.specs.Outcomes.{report_of};
 ghost use Rattle.enlargement.specs.Enlargement.{TwoCalls};
 

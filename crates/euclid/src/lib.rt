@@ -1,5 +1,7 @@
 // Division with remainder and the greatest common divisor of polynomials modulo one of the four primes.
 // A length is the degree plus 1, and 0 for the zero polynomial.
+#![tactic(auto)]
+
 pub mod division;
 
 ghost use Rattle.std.specs.Prelude.{◌≤◌, max, ◌≡◌};

@@ -1,4 +1,6 @@
 // The values of a polynomial at all points of a table of rows at once, by Horner's rule on whole arrays.
+#![tactic(auto)]
+
 ghost use Rattle.std.specs.Prelude.{◌≤◌, ◌≡◌};
 ghost use Rattle.field.specs.Primes.{modulus_of};
 ghost use Rattle.poly.specs.Coefficients.{Bounded};

@@ -1,4 +1,6 @@
 // The numbers modulo one of the four primes: any operands, reduced results.
+#![tactic(auto)]
+
 ghost use Rattle.std.specs.Prelude.{◌*◌, ◌%◌, ◌≡◌};
 ghost use Rattle.field.specs.Primes.{modulus_of, prime_of_code};
 

@@ -1,5 +1,7 @@
 // Paper 02, item 4: jobs checked for form only, by the tests 1, 11, 3, 4, 5, 12 and 6.
 // There is no answer area, and no more of a job's rows is kept than their points.
+#![tactic(auto)]
+
 ghost use Rattle.std.specs.Prelude.{◌<◌, ◌≤◌, true, false, ◌||◌, ◌≡◌, leb, length, get_or};
 ghost use Rattle.format.specs.declared.Outcome.TheVariants.{Accepted};
 ghost use Rattle.header.specs.Header.{header_of, job_length_of, FitsHeader};

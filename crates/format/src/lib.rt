@@ -1,4 +1,6 @@
 // What a job's header fixes, its bounds, and what a call answers: refusals, outcomes and reports.
+#![tactic(auto)]
+
 ghost use Rattle.std.specs.Prelude.{◌≤◌, ◌<◌, cond, ◌≡◌, ltb};
 ghost use Rattle.format.specs.Bounds.{numerator_bound_of, largest_bound, answer_length_of, FitsPolynomials};
 ghost use Rattle.format.specs.Outcomes.{refusal_number, report_of};

@@ -1,4 +1,6 @@
 // A fraction of polynomials in lowest terms.
+#![tactic(auto)]
+
 ghost use Rattle.std.specs.Prelude.{◌≤◌, ◌<◌, ◌≡◌};
 ghost use Rattle.field.specs.Primes.{modulus_of};
 ghost use Rattle.poly.specs.Coefficients.{Bounded};

@@ -1,4 +1,6 @@
 // A job's header, short or longer: its fields, and the lengths that they fix.
+#![tactic(auto)]
+
 ghost use Rattle.std.specs.Prelude.{◌+◌, ◌*◌, ◌≤◌, cond, ◌≡◌, ltb, eqb};
 ghost use Rattle.lists.specs.Tabulated.{tabulate};
 ghost use Rattle.cursor.specs.Bits.{field_of};

@@ -1,4 +1,6 @@
 // Refusals 1 and 11: what a header alone decides.
+#![tactic(auto)]
+
 ghost use Rattle.std.specs.Prelude.{◌≤◌, ◌≡◌};
 ghost use Rattle.header.specs.Header.{FitsHeader};
 ghost use Rattle.header_rules.specs.Rules.{bounds_absent, breaks_rule, rules_outcome_of};

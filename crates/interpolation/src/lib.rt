@@ -2,6 +2,8 @@
 // docs/METHOD.md, section 1: there are two pairs, and after the rows one of them is (a, b), not both zero, with
 // c a(x) = z b(x) at every row (x, z) of weight c, a of degree at most A and b of degree at most B, where A + B + 1 rows at most ask something.
 // The discrepancies c a(x) - z b(x) of both pairs are kept for all rows and changed as the pairs are, so that no polynomial is evaluated.
+#![tactic(auto)]
+
 ghost use Rattle.std.specs.Prelude.{ℕ, ◌+◌, ◌-◌, ◌%◌, ◌≤◌, ◌<◌, ◌≡◌, get_or, length};
 ghost use Rattle.field.specs.Primes.{modulus_of};
 ghost use Rattle.poly.specs.Coefficients.{Stored};

@@ -1,4 +1,6 @@
 // Paper 02, item 3, over two calls: a job is recovered, and an answer offered for it is judged.
+#![tactic(auto)]
+
 ghost use Rattle.format.specs.Outcomes.{report_of};
 ghost use Rattle.offered_answer.specs.Judgements.{judgement_report_of};
 ghost use Rattle.judged_recovery.specs.JudgedRecovery.{JudgedRecovery};

@@ -1,4 +1,6 @@
 // A combination of two arrays of residues, in place (`lanes` says how).
+#![tactic(auto)]
+
 ghost use Rattle.std.specs.Prelude.{◌-◌, ◌*◌, ◌/◌, ◌≤◌, ◌<◌, ◌≡◌};
 ghost use Rattle.lanes.specs.Lanes.{groups_of, modulus_at, Moduli, Residues, replaced, combined_lane};
 

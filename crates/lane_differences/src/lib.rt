@@ -1,4 +1,6 @@
 // The entries of an array, one for each point, times the differences of the points, in place (`lanes` says how).
+#![tactic(auto)]
+
 ghost use Rattle.std.specs.Prelude.{◌-◌, ◌*◌, ◌/◌, ◌≤◌, ◌<◌, ◌≡◌};
 ghost use Rattle.lanes.specs.Lanes.{groups_of, modulus_at, Moduli, Residues, replaced, difference_lane};
 

@@ -1,4 +1,6 @@
 // A step of Horner's rule for all points at once, in place (`lanes` says how).
+#![tactic(auto)]
+
 ghost use Rattle.std.specs.Prelude.{◌≤◌, ◌<◌, ◌≡◌};
 ghost use Rattle.lanes.specs.Lanes.{groups_of, modulus_at, Moduli, Residues, replaced, horner_lane};
 

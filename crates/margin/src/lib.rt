@@ -1,4 +1,6 @@
 // Paper 02, item 7: the margin of a job and a number of wrong rows, and a job recovered with the margin of its answer.
+#![tactic(auto)]
+
 pub mod recovered;
 
 ghost use Rattle.std.specs.Prelude.{◌+◌, ◌*◌, ◌≤◌, ◌≡◌};

@@ -1,4 +1,6 @@
 // Paper 02, item 6: rows that report a pole and rows that are silent, and all rows of a job by the conditions that they put.
+#![tactic(auto)]
+
 ghost use Rattle.std.specs.Prelude.{◌+◌, ◌*◌, ◌<◌, ◌≤◌, ◌≡◌, length, get_or};
 ghost use Rattle.header.specs.Header.{header_length_of, flags_of, marks_allowed, bounds_of};
 ghost use Rattle.marked_rows.specs.Marks.{all_are, mark_of, speaking_count};

@@ -1,4 +1,6 @@
 // Products of residues in 16 bits by Montgomery's reduction (`reduction`), with the constants and factors of the four primes.
+#![tactic(auto)]
+
 pub mod reduction;
 
 ghost use Rattle.std.specs.Prelude.{◌*◌, ◌%◌, ◌≡◌};

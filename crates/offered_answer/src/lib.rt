@@ -1,4 +1,6 @@
 // Paper 02, item 3: whether bytes that somebody offers are a job's answer, found without recovering the job.
+#![tactic(auto)]
+
 ghost use Rattle.std.specs.Prelude.{◌≤◌, ◌≡◌, true, ◌↔◌, length};
 ghost use Rattle.format.specs.Bounds.{answer_length_of, FitsPolynomials};
 ghost use Rattle.format.specs.Numbers.{word_from};

@@ -1,4 +1,6 @@
 // A pair of polynomials, and what one row does to two of them (docs/METHOD.md, section 1).
+#![tactic(auto)]
+
 pub mod stepping;
 
 use poly::Poly;

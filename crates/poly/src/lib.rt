@@ -1,5 +1,7 @@
 // Polynomials modulo one of the four primes, with at most 32 coefficients: lengths, products, multiples by a number.
 // The parameter n of a function says from where on all coefficients are zero: the loops go no further.
+#![tactic(auto)]
+
 pub mod multiplication;
 pub mod scaling;
 

@@ -1,4 +1,6 @@
 // The printing program of paper 01: reads one job from standard input and prints what the recovery finds.
+#![tactic(auto)]
+
 ghost use Rattle.std.specs.Prelude.{◌≤◌, length};
 ghost use Rattle.print.specs.Printed.{Printed};
 

@@ -1,4 +1,6 @@
 // Paper 02, item 4: eight bytes of a row as one 64-bit word, and its four parts.
+#![tactic(auto)]
+
 ghost use Rattle.std.specs.Prelude.{◌+◌, ◌<◌, ◌≤◌, ◌≡◌, length};
 ghost use Rattle.read_u64.specs.Words.{joined_bytes, part_of};
 

@@ -1,4 +1,6 @@
 // Reciprocals modulo the four primes, and that zero has none: for 257 from a table, for the others computed.
+#![tactic(auto)]
+
 ghost use Rattle.std.specs.Prelude.{◌%◌, ◌<◌, ◌≡◌};
 ghost use Rattle.field.specs.Primes.{modulus_of};
 ghost use Rattle.reciprocal.specs.declared.OptionalReciprocal.TheVariants.{Number};

@@ -1,4 +1,6 @@
 // Demands 1 and 2: a job's bytes in, the reduced vector and exactly its wrong rows out, or a numbered refusal.
+#![tactic(auto)]
+
 ghost use Rattle.format.specs.Outcomes.{report_of};
 ghost use Rattle.recovery.specs.Recovery.{Settled};
 

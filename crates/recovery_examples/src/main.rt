@@ -7,6 +7,8 @@
 // rightly and not, silent rows, too few rows that speak beside other faults, rows that are marked in part, and marks without the flag.
 // A line of the file has a name, a colon, the length of the answer area, and the job's bytes with a space before each. The length and
 // each byte are two hex digits.
+#![tactic(auto)]
+
 ghost use Rattle.std.specs.Prelude.{◌≤◌, ◌<◌};
 ghost use Rattle.io.specs.Counts.{IsPrefixLen};
 

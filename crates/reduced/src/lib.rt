@@ -1,4 +1,6 @@
 // Whether numerators f1, .., fn over g are reduced, decided by Euclid's rule over all of them (paper 01, "The object").
+#![tactic(auto)]
+
 ghost use Rattle.std.specs.Prelude.{ℕ, ◌≤◌, ◌<◌, ◌≡◌, true, ◌↔◌};
 ghost use Rattle.field.specs.Primes.{modulus_of};
 ghost use Rattle.poly.specs.Coefficients.{Stored};

@@ -1,4 +1,6 @@
 // The word of wrong rows (paper 01, "The recovered sheet").
+#![tactic(auto)]
+
 ghost use Rattle.std.specs.Prelude.{◌+◌, ◌-◌, ◌^◌, ◌<◌, ◌≡◌};
 ghost use Rattle.row_mask.specs.Word.{with_row, wrong_count_of, first_wrong_of};
 

@@ -1,4 +1,6 @@
 // The first rows that refusals 5 and 6 speak of.
+#![tactic(auto)]
+
 ghost use Rattle.std.specs.Prelude.{◌+◌, ◌*◌, ◌<◌, ◌≤◌, true, ◌||◌, ◌≡◌, eqb, leb, get_or};
 ghost use Rattle.lists.specs.Counting.{count_below};
 ghost use Rattle.lists.specs.Search.{first_below, any_below, Distinct};

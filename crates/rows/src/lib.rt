@@ -1,4 +1,6 @@
 // The rows of a job: a point and the values of the outputs, 16 bits a number.
+#![tactic(auto)]
+
 ghost use Rattle.std.specs.Prelude.{◌+◌, ◌*◌, ◌<◌, ◌≤◌, ◌≡◌, length};
 ghost use Rattle.format.specs.Numbers.{number_from};
 ghost use Rattle.header.specs.Header.{header_length_of, bounds_of};

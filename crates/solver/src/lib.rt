@@ -1,4 +1,6 @@
 // From the table of a job's rows the vector for which at most E rows are wrong, or that there is none.
+#![tactic(auto)]
+
 ghost use Rattle.std.specs.Prelude.{◌≡◌};
 ghost use Rattle.format.specs.Bounds.{EnoughRows};
 ghost use Rattle.candidate.specs.Candidates.{RowsInRange};

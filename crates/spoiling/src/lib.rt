@@ -1,4 +1,6 @@
 // Paper 02, item 1: the draws of a trial job, and which rows they spoil by how much.
+#![tactic(auto)]
+
 ghost use Rattle.std.specs.Prelude.{◌≡◌, ◌*◌, ◌%◌, ◌^◌, ◌<◌, ◌≤◌, not, ◌==◌, slice_index};
 ghost use Rattle.field.specs.Primes.{modulus_of};
 ghost use Rattle.lists.specs.Tabulated.{tabulate};

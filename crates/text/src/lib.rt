@@ -1,4 +1,6 @@
 // The text that the printing program prints, made in a lent buffer (paper 01, "The printing program").
+#![tactic(auto)]
+
 mod draft;
 mod lines;
 

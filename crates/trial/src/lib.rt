@@ -1,4 +1,6 @@
 // Paper 02, item 1: trial jobs, whose answer is known, written from a header, coefficients, a start and the number of rows to be spoiled.
+#![tactic(auto)]
+
 mod job_rows;
 
 ghost use Rattle.std.specs.Prelude.{ℕ, ◌+◌, ◌*◌, ◌≤◌, ◌<◌, ◌≡◌, true, ◌↔◌, length};

@@ -1,4 +1,6 @@
 // Paper 02, item 1, over two calls: a trial job is written and recovered.
+#![tactic(auto)]
+
 ghost use Rattle.std.specs.Prelude.{◌≡◌};
 ghost use Rattle.format.specs.Outcomes.{report_of, writing_report_of};
 ghost use Rattle.trial_recovery.specs.TrialRecovery.{TrialRecovered};

@@ -1,4 +1,6 @@
 // Which rows of a table are wrong for an answer (paper 01, "The object", and paper 02, item 6).
+#![tactic(auto)]
+
 ghost use Rattle.std.specs.Prelude.{get_or, ℕ, ◌+◌, ◌*◌, ◌%◌, ◌≤◌, ◌<◌, ◌≡◌, not, List, eqb};
 ghost use Rattle.field.specs.Primes.{modulus_of};
 ghost use Rattle.format.specs.Bounds.{numerator_bound_of, FitsPolynomials};
