@@ -9,7 +9,7 @@ use poly::Poly;
 use rows::number_from;
 
 // The denominator g, and the numerators, those of outputs that do not exist being zero; and whether a coefficient is p or more.
-#[derive(Drop)]
+#[derive(Clone, Copy)]
 pub struct Vector {
     pub g: Poly,
     pub f: [Poly; 4],

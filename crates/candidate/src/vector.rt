@@ -5,7 +5,7 @@ ghost use Rattle.candidate.specs.Vector.{unsolvable_candidate};
 use poly::Poly;
 
 // The common denominator g, and the numerators of the outputs done; the others are zero.
-#[derive(Drop)]
+#[derive(Clone, Copy)]
 pub struct Candidate {
     pub solvable: bool,
     pub g: Poly,

@@ -7,7 +7,7 @@ ghost use Rattle.checked_recovery.specs.CheckedRecovery.{CheckedRecovery};
 use format::Outcome;
 
 // What two calls returned.
-#[derive(Drop)]
+#[derive(Clone, Copy)]
 pub struct CheckAndRecovery {
     pub form: Outcome,
     pub recovery: Outcome,

@@ -14,7 +14,7 @@ use format::Bounds;
 use poly::Poly;
 
 // The right-hand sides of one output's conditions, and how many of the rows ask something.
-#[derive(Drop)]
+#[derive(Clone, Copy)]
 pub struct RightSides {
     pub z: [u32; 32],
     pub active: usize,

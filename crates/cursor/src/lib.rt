@@ -5,13 +5,13 @@ ghost use Rattle.std.specs.Prelude.{◌+◌, ◌%◌, ◌^◌, ◌<◌, ◌≤�
 ghost use Rattle.cursor.specs.Bits.{field_of};
 
 // The place of the next bit, counted from the top of the first byte.
-#[derive(Drop)]
+#[derive(Clone, Copy)]
 pub struct Cursor {
     pub at: usize,
 }
 
 // A field's number, and the place after it.
-#[derive(Drop)]
+#[derive(Clone, Copy)]
 pub struct Field {
     pub value: u32,
     pub next: Cursor,

@@ -7,7 +7,7 @@ ghost use Rattle.either_header.specs.EitherHeader.{EitherHeader};
 use format::Outcome;
 
 // What two calls returned.
-#[derive(Drop)]
+#[derive(Clone, Copy)]
 pub struct HeaderRecoveries {
     pub short: Outcome,
     pub longer: Outcome,

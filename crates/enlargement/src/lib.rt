@@ -7,7 +7,7 @@ ghost use Rattle.enlargement.specs.Enlargement.{TwoCalls};
 use format::Outcome;
 
 // What two calls returned.
-#[derive(Drop)]
+#[derive(Clone, Copy)]
 pub struct RecoveryPair {
     pub first: Outcome,
     pub second: Outcome,

@@ -8,7 +8,7 @@ ghost use Rattle.euclid.specs.Division.{cancelled_of, remainder_of, quotient_of}
 use field::Prime;
 use poly::Poly;
 
-#[derive(Drop)]
+#[derive(Clone, Copy)]
 pub struct Division {
     pub quotient: Poly,
     pub remainder: Poly,

@@ -10,7 +10,7 @@ use field::Prime;
 use poly::Poly;
 
 // A residue for each of up to 32 rows, in the order of the rows.
-#[derive(Drop)]
+#[derive(Clone, Copy)]
 pub struct PerRow {
     pub v: [u16; 32],
 }

@@ -5,7 +5,7 @@ ghost use Rattle.std.specs.Prelude.{◌*◌, ◌%◌, ◌≡◌};
 ghost use Rattle.field.specs.Primes.{modulus_of, prime_of_code};
 
 // Paper 01, "Primes by code".
-#[derive(Drop)]
+#[derive(Clone, Copy)]
 pub enum Prime {
     P7,
     P97,

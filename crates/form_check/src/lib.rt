@@ -22,7 +22,7 @@ use rows::{Row, row_at};
 
 // An outcome in the papers' numbers: the refusal (0 where none) and the row it names. Callers in C get it as it stands here.
 #[repr(C)]
-#[derive(Drop)]
+#[derive(Clone, Copy)]
 pub struct FormReport {
     pub refusal: u32,
     pub row: u32,
@@ -46,7 +46,7 @@ fn is_out_of_range(point: u32, v: [u32; 4], p: u32) -> bool
 }
 
 // What a row says by its mark: whether test 5 refuses it, and how many rows it adds to those that speak.
-#[derive(Drop)]
+#[derive(Clone, Copy)]
 struct RowForm {
     refused: bool,
     speaking: usize,
@@ -74,7 +74,7 @@ fn row_form(row: Row, outputs: usize, p: u32) -> RowForm
 }
 
 // What a pass over the rows finds, besides the points that it stores: the first row that test 5 refuses, and where there is none how many rows speak.
-#[derive(Drop)]
+#[derive(Clone, Copy)]
 struct Scan {
     found: Found,
     speaking: usize,

@@ -8,7 +8,7 @@ ghost use Rattle.format.specs.Outcomes.{refusal_number, report_of};
 use field::Prime;
 
 // What a header fixes: the prime, n outputs, L rows, the degree bounds of f1 to f4 and of g, E.
-#[derive(Drop)]
+#[derive(Clone, Copy)]
 pub struct Bounds {
     pub prime: Prime,
     pub outputs: usize,
@@ -64,7 +64,7 @@ impl Bounds {
 
 // The refusals in the order of their numbers: the eight of paper 01's table, then those of paper 02. A job is never refused with SpareBit, which
 // stays for formats without the longer header, and a recovery gives of the later ones AddedHeader and TooFewSpeaking alone.
-#[derive(Drop)]
+#[derive(Clone, Copy)]
 pub enum Reason {
     TooShort,
     SpareBit,
@@ -82,7 +82,7 @@ pub enum Reason {
 
 // What a call answers. Accepted is for use between the crates: the reader's answer to a well-formed job, the solver's where there is an answer.
 // Recovery never gives it.
-#[derive(Drop)]
+#[derive(Clone, Copy)]
 pub enum Outcome {
     Accepted,
     Recovered { bytes: u32, wrong: u32 },
@@ -112,7 +112,7 @@ pub fn refusal_number(reason: Reason) -> u32
 // An outcome in the paper's numbers: the refusal (0 where none), the row it names, the bytes written, the wrong rows. Callers in C get it as
 // it stands here.
 #[repr(C)]
-#[derive(Drop)]
+#[derive(Clone, Copy)]
 pub struct Report {
     pub refusal: u32,
     pub row: u32,
@@ -149,7 +149,7 @@ pub fn reported(outcome: Outcome) -> Report
 }
 
 // What a call answers that writes an area and recovers nothing.
-#[derive(Drop)]
+#[derive(Clone, Copy)]
 pub enum Writing {
     Written { bytes: u32 },
     Refused { reason: Reason, row: u32 },
@@ -157,7 +157,7 @@ pub enum Writing {
 
 // The same in the papers' numbers: the refusal (0 where none), the row it names, the bytes written. Callers in C get it as it stands here.
 #[repr(C)]
-#[derive(Drop)]
+#[derive(Clone, Copy)]
 pub struct WritingReport {
     pub refusal: u32,
     pub row: u32,

@@ -10,7 +10,7 @@ ghost use Rattle.fraction.specs.LowestTerms.{reduced_numerator, reduced_denomina
 use field::Prime;
 use poly::Poly;
 
-#[derive(Drop)]
+#[derive(Clone, Copy)]
 pub struct Fraction {
     pub numerator: Poly,
     pub denominator: Poly,

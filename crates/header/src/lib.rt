@@ -10,7 +10,7 @@ use cursor::{Cursor, Field};
 use format::Bounds;
 
 // All that a header says: the bounds, df, the flags of the longer header, and how many bytes it has, 3 or 7.
-#[derive(Drop)]
+#[derive(Clone, Copy)]
 pub struct Header {
     pub bounds: Bounds,
     pub df: usize,
@@ -28,7 +28,7 @@ impl Header {
 }
 
 // What the longer header adds, or what stands for it: the degree bounds of f1 to f4, and the flags.
-#[derive(Drop)]
+#[derive(Clone, Copy)]
 struct Added {
     numerators: [usize; 4],
     flags: u32,

@@ -14,7 +14,7 @@ use row_search::first_out_of_range;
 
 // The outcome, and where it is Accepted the header's fields, the rows by their conditions, and how many of them speak: row r's point and weight stand
 // at r, its value for output i at 4 r + i.
-#[derive(Drop)]
+#[derive(Clone, Copy)]
 pub struct ParsedJob {
     pub outcome: Outcome,
     pub bounds: Bounds,

@@ -9,7 +9,7 @@ use format::Outcome;
 use offered_answer::Judgement;
 
 // What two calls returned.
-#[derive(Drop)]
+#[derive(Clone, Copy)]
 pub struct RecoveryAndJudgement {
     pub recovery: Outcome,
     pub judgement: Judgement,

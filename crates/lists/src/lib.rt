@@ -2,7 +2,7 @@
 #![tactic(auto)]
 
 // What a search finds: the first place that it looks for, if there is one.
-#[derive(Drop)]
+#[derive(Clone, Copy)]
 pub enum Found {
     At(u32),
     Nothing,

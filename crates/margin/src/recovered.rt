@@ -5,7 +5,7 @@ ghost use Rattle.margin.specs.RecoveredMargin.{RecoveredMargin};
 use format::Outcome;
 
 // What two calls returned.
-#[derive(Drop)]
+#[derive(Clone, Copy)]
 pub struct Measured {
     pub recovery: Outcome,
     pub margin: u32,

@@ -9,7 +9,7 @@ ghost use Rattle.marked_rows.specs.Table.{conditions_by, job_points, job_weights
 use rows::{Row, row_at};
 
 // What a row's values are: numbers, or one of the two marks.
-#[derive(Drop)]
+#[derive(Clone, Copy)]
 pub enum Mark {
     None,
     Pole,
@@ -18,7 +18,7 @@ pub enum Mark {
 
 // A row by its conditions, c fi(x) = g(x) yi for each output: its weight is c, its values are the yi. And how many rows it adds to those that
 // speak.
-#[derive(Drop)]
+#[derive(Clone, Copy)]
 pub struct RowConditions {
     pub point: u32,
     pub weight: u16,
@@ -27,7 +27,7 @@ pub struct RowConditions {
 }
 
 // All rows: row r's point and weight stand at r, its value for output i at 4 r + i. And how many of them speak.
-#[derive(Drop)]
+#[derive(Clone, Copy)]
 pub struct Table {
     pub points: [u32; 32],
     pub weights: [u16; 32],

@@ -11,7 +11,7 @@ use field::Prime;
 pub use reduction::{difference, product};
 
 // A number e as the factor of products: Montgomery's form of it, 2^16 e modulo the prime, and that divided by the prime modulo 2^16.
-#[derive(Drop)]
+#[derive(Clone, Copy)]
 pub struct Factor {
     pub form: u16,
     pub low: u16,

@@ -18,7 +18,7 @@ use rows::number_from;
 const LONGEST: usize = 254;
 
 // What is said of an offered answer.
-#[derive(Drop)]
+#[derive(Clone, Copy)]
 pub enum Judgement {
     Yes,
     No,
@@ -27,7 +27,7 @@ pub enum Judgement {
 
 // The same in the papers' numbers: the refusal (0 where none), the row it names, and 1 for yes. Callers in C get it as it stands here.
 #[repr(C)]
-#[derive(Drop)]
+#[derive(Clone, Copy)]
 pub struct JudgementReport {
     pub refusal: u32,
     pub row: u32,

@@ -7,7 +7,7 @@ use poly::Poly;
 pub use stepping::{Leader, PairState, PairStates, RowStep, step};
 
 // A pair (a, b), and the number e by which the two pairs are compared.
-#[derive(Drop)]
+#[derive(Clone, Copy)]
 pub struct Pair {
     pub a: Poly,
     pub b: Poly,

@@ -10,7 +10,7 @@ use montgomery::Factor;
 
 // A pair whose polynomials stand in arrays: its number e, from where on both polynomials are zero, and how many entries the last row wrote
 // of each of them and of their discrepancies.
-#[derive(Drop)]
+#[derive(Clone, Copy)]
 pub struct PairState {
     pub e: usize,
     pub n: usize,
@@ -19,14 +19,14 @@ pub struct PairState {
 }
 
 // The first pair leads in a, the second in b.
-#[derive(Drop)]
+#[derive(Clone, Copy)]
 pub struct PairStates {
     pub first: PairState,
     pub second: PairState,
 }
 
 // The pair that is advanced at a row.
-#[derive(Drop)]
+#[derive(Clone, Copy)]
 pub enum Leader {
     Neither,
     First,
@@ -34,7 +34,7 @@ pub enum Leader {
 }
 
 // A row: the prime, its index, how many rows there are, and its point, also as a factor.
-#[derive(Drop)]
+#[derive(Clone, Copy)]
 pub struct RowStep {
     pub prime: Prime,
     pub index: usize,

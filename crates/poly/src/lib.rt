@@ -12,7 +12,7 @@ pub use multiplication::product;
 pub use scaling::scaled;
 
 // Coefficients from the constant term upward.
-#[derive(Drop)]
+#[derive(Clone, Copy)]
 pub struct Poly {
     pub c: [u32; 32],
 }

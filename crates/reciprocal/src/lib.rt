@@ -12,7 +12,7 @@ use field::Prime;
 mod table257;
 
 // Paper 02, item 2: the reciprocal of a number, or "no reciprocal".
-#[derive(Drop)]
+#[derive(Clone, Copy)]
 pub enum OptionalReciprocal {
     Number(u32),
     None,
@@ -78,7 +78,7 @@ const NO_RECIPROCAL: u32 = 4294967295;
 
 // An answer in numbers: whether there is a reciprocal, and which. Callers in C get it as it stands here.
 #[repr(C)]
-#[derive(Drop)]
+#[derive(Clone, Copy)]
 pub struct ReciprocalReport {
     pub exists: u32,
     pub value: u32,

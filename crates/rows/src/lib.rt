@@ -9,7 +9,7 @@ ghost use Rattle.rows.specs.Steps.{row_of, row_at};
 use cursor::wide;
 use read_u64::{part, read_u64};
 
-#[derive(Drop)]
+#[derive(Clone, Copy)]
 pub struct Row {
     pub point: u32,
     pub values: [u32; 4],

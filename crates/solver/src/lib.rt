@@ -11,7 +11,7 @@ use poly::Poly;
 
 // What the solver found: Accepted if there is an answer, and then its word of wrong rows, their count, g and the numerators; refused with zeros beside it
 // if there is none.
-#[derive(Drop)]
+#[derive(Clone, Copy)]
 pub struct Solution {
     pub outcome: Outcome,
     pub word: u32,

@@ -10,7 +10,7 @@ ghost use Rattle.spoiling.specs.Spoiling.{untaken_from, chosen_row, amount_of, a
 use field::Prime;
 
 // What is added to the first value of each row, 0 where the row is not spoiled.
-#[derive(Drop)]
+#[derive(Clone, Copy)]
 pub struct Additions {
     pub by: [u32; 32],
 }

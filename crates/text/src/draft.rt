@@ -7,7 +7,7 @@ ghost use Rattle.text.specs.Decimal.{digits_within, item_of};
 const ROOM: usize = 1280;
 
 // The first bytes are the text so far.
-#[derive(Drop)]
+#[derive(Clone, Copy)]
 pub struct Draft {
     pub bytes: [u8; ROOM],
     pub count: usize,

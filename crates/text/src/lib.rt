@@ -14,7 +14,7 @@ use format::{Bounds, Outcome};
 use lines::{put_margin, put_outputs, put_polynomial, put_rows, read_word};
 
 // How many bytes the text has, or why there is none.
-#[derive(Drop)]
+#[derive(Clone, Copy)]
 pub enum Written {
     Bytes(usize),
     // The buffer is shorter than the text.

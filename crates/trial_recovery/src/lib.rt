@@ -8,7 +8,7 @@ ghost use Rattle.trial_recovery.specs.TrialRecovery.{TrialRecovered};
 use format::{Outcome, Writing};
 
 // What two calls returned.
-#[derive(Drop)]
+#[derive(Clone, Copy)]
 pub struct TrialAndRecovery {
     pub writing: Writing,
     pub recovery: Outcome,
