@@ -96,8 +96,8 @@ pub fn row_conditions(row: Row, outputs: usize, marks: bool) -> RowConditions
 
 // All rows of a job whose length fits its header.
 pub fn read_table(job: &[u8], start: usize, rows: usize, outputs: usize, marks: bool) -> Table
-    requires start_bound { (start ≤ 7) × (rows ≤ 31) × (outputs ≤ 4) × (length job.now ≡ start + 2 * rows * (1 + outputs)) }
-    requires start_value { (start ≡ header_length_of job.now) × (rows ≡ (bounds_of job.now).rows) × (outputs ≡ (bounds_of job.now).outputs) × (marks ≡ marks_allowed (flags_of job.now)) }
+    requires within { (start ≤ 7) × (rows ≤ 31) × (outputs ≤ 4) × (length job.now ≡ start + 2 * rows * (1 + outputs)) }
+    requires from_header { (start ≡ header_length_of job.now) × (rows ≡ (bounds_of job.now).rows) × (outputs ≡ (bounds_of job.now).outputs) × (marks ≡ marks_allowed (flags_of job.now)) }
     ensures { (result.points ≡ job_points job.now) × (result.weights ≡ job_weights job.now) × (result.values ≡ job_values job.now)
         × (result.speaking ≡ speaking_count job.now) }
 {

@@ -72,8 +72,8 @@ fn read_row(bytes: &[u8], outputs: usize) -> Row
 
 // Row r of the job, read through its own bytes; the rows begin at a byte called start.
 pub fn row_at(job: &[u8], start: usize, r: usize, rows: usize, outputs: usize) -> Row
-    requires start_bound { (start ≤ 7) × (r < rows) × (rows ≤ 31) × (outputs ≤ 4) × (length job.now ≡ start + 2 * rows * (1 + outputs)) }
-    requires start_value { (start ≡ header_length_of job.now) × (outputs ≡ (bounds_of job.now).outputs) }
+    requires within { (start ≤ 7) × (r < rows) × (rows ≤ 31) × (outputs ≤ 4) × (length job.now ≡ start + 2 * rows * (1 + outputs)) }
+    requires from_header { (start ≡ header_length_of job.now) × (outputs ≡ (bounds_of job.now).outputs) }
     ensures { result ≡ row_at job.now r }
 {
     let from = start + 2 * (r * (1 + outputs));

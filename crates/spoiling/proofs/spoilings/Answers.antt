@@ -10,7 +10,7 @@ bounds-by-row c =
     rw c.chosen_row-row.ensures (lt_of_lt_of_le (chosen_row_below _ _ _ pre.0) pre.1)
 
 pub offset_bounds-by-row : goal.offset_bounds-by-row
-offset_bounds-by-row c = scaled_Fits _ 32 4 (array-write-by c) (lit< tt)
+offset_bounds-by-row c = scaled_Fits _ 32 4 (bounds-by-row c) (lit< tt)
 
 pub loop-j-preserved : goal.loop-j-preserved
 loop-j-preserved c =

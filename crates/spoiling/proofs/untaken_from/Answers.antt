@@ -9,7 +9,7 @@ pub bounds-by-r : goal.bounds-by-r
 bounds-by-r c = lt_of_lt_of_le (mod-lt _ (omega arith)) c.requires.0
 
 pub offset_bounds-by-r : goal.offset_bounds-by-r
-offset_bounds-by-r c = scaled_Fits _ 32 4 (array-read-if1 c) (lit< tt)
+offset_bounds-by-r c = scaled_Fits _ 32 4 (bounds-by-r c) (lit< tt)
 
 pub returns-then-by-r-eq0 : goal.returns-then-by-r-eq0
 unfolding untaken_from

@@ -29,7 +29,7 @@ loop-top-init c =
     omega arith) in
     let divisor : Divisor (modulus_of c.args.q) c.args.b.c c.args.lb = record { prime = modulus_prime c.args.q; is_length = c.requires.2; positive = c.requires.3; fits = divisor-fits; bounded = c.requires.4 } in
     let inverse-is : let s = c.args in
-    Number c.nonzero_reciprocal-inverse.result ≡ leading_reciprocal (modulus_of s.q) s.t4.c = c.nonzero_reciprocal-inverse.ensures ∙ leading_is divisor in
+    Number c.nonzero_reciprocal-inverse.result ≡ leading_reciprocal (modulus_of s.q) s.b.c = c.nonzero_reciprocal-inverse.ensures ∙ leading_is divisor in
     let a = c.args.a.c in
     let size : length a ≡ 32 = search rules in
     (rw c.zero-quotient.ensures (progress_start divisor inverse-is a _ c.requires.0 size c.requires.1), size)
@@ -47,7 +47,7 @@ loop-top-preserved c =
     omega arith) in
     let divisor : Divisor (modulus_of c.args.q) c.args.b.c c.args.lb = record { prime = modulus_prime c.args.q; is_length = c.requires.2; positive = c.requires.3; fits = divisor-fits; bounded = c.requires.4 } in
     let inverse-is : let s = c.args in
-    Number c.nonzero_reciprocal-inverse.result ≡ leading_reciprocal (modulus_of s.q) s.t4.c = c.nonzero_reciprocal-inverse.ensures ∙ leading_is divisor in
+    Number c.nonzero_reciprocal-inverse.result ≡ leading_reciprocal (modulus_of s.q) s.b.c = c.nonzero_reciprocal-inverse.ensures ∙ leading_is divisor in
     let u = inverse-is in (
       progress_step divisor u c.args.a.c c.args.la c.loop-top.invariant.0 (omega arith) c.product-k.ensures c.cancel.ensures.1,
       c.cancel.ensures.2,
@@ -60,7 +60,7 @@ returns c =
     omega arith) in
     let divisor : Divisor (modulus_of c.args.q) c.args.b.c c.args.lb = record { prime = modulus_prime c.args.q; is_length = c.requires.2; positive = c.requires.3; fits = divisor-fits; bounded = c.requires.4 } in
     let inverse-is : let s = c.args in
-    Number c.nonzero_reciprocal-inverse.result ≡ leading_reciprocal (modulus_of s.q) s.t4.c = c.nonzero_reciprocal-inverse.ensures ∙ leading_is divisor in
+    Number c.nonzero_reciprocal-inverse.result ≡ leading_reciprocal (modulus_of s.q) s.b.c = c.nonzero_reciprocal-inverse.ensures ∙ leading_is divisor in
     let a = c.args.a.c in
     let size : length a ≡ 32 = search rules in
     let e = progress_end divisor inverse-is a c.args.la c.loop-top.invariant.0 (omega arith) in
