@@ -1,7 +1,7 @@
 -- Polynomials that keep to the bounds of a job, in candidates and in products.
 use mathlib.Core.Path.{◌≡◌, refl, sym, ap, subst, ◌∙◌}
 use mathlib.Core.Bool.{Bool, false}
-use mathlib.Core.List.{List, [], ◌∷◌, map}
+use mathlib.Core.List.{List, [], ◌∷◌}
 use Prim.Native.Nat.{ℕ, zero, suc, ◌+◌, ◌≤◌, ◌<◌}
 use native.Mathlib.Nat.{mod-lt}
 use native.Mathlib.Decide.{ℕ_discrete}
@@ -11,12 +11,11 @@ use lib.Seq.{get_or-set_same, get_or-set_other}
 use mir.Val.{Val}
 use denote.Shadow.{shadow}
 use denote.Array.{each}
-use borrow.Author.Rules.{length_unmapped}
 use Rattle.field.proofs.Moduli.{modulus_positive}
 use Rattle.format.specs.declared.Bounds.{Bounds}
 use Rattle.format.specs.Bounds.{numerator_bound_of, prime_of}
 use Rattle.poly.specs.declared.Poly.{Poly}
-use Rattle.poly.specs.contracts.Poly.{the_field}
+use Rattle.poly.specs.contracts.Poly.{the_row}
 use Rattle.poly.specs.Coefficients.{Bounded}
 use Rattle.poly.specs.Vectors.{zero_poly, coefficients_at}
 use Rattle.poly.specs.Operations.{product_at, product_of}
@@ -35,11 +34,11 @@ bounded_raised {la = zero} {a = a} {h = h} positive ba bh short =
 bounded_raised {la = suc la} positive ba bh short = bounded_mono (bounded_product ba bh positive) (let l = short (omega arith) in omega arith)
 
 -- the polynomials of an array have 32 coefficients each: that they are of the type Poly says so
-pub size_of_each : (f : List Poly) (us : List Val) (j : ℕ) → shadow (each _ the_field.row.own_val (map the_field.into f) us)
+pub size_of_each : (f : List Poly) (us : List Val) (j : ℕ) → shadow (each the_row.Denot the_row.own_val f us)
     → j < length f → length (coefficients_at f j) ≡ 32
 size_of_each [] us j typed l = absurd (omega arith)
 size_of_each (x ∷ f) [] j typed l = absurd typed
-size_of_each (x ∷ f) (u ∷ us) zero typed l = length_unmapped _ x.c 32 typed.0.1.1.0.1.0.1
+size_of_each (x ∷ f) (u ∷ us) zero typed l = typed.0.1.1.0.1.0.1
 size_of_each (x ∷ f) (u ∷ us) (suc j) typed l = size_of_each f us j typed.1 (omega arith)
 
 -- the polynomials of an array, one of them set

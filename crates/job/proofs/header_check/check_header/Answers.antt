@@ -17,7 +17,7 @@ returns-in_default c =
     let broken : Bool = breaks_rule c.args.header in
     let checked = c.check_rules-checked.ensures in
     checked ∙ two_refused short broken _
-    (λ e. ⊎_elim (λ h. omega arith) (λ h. omega arith) (rw (checked ∙ e) at c.in_default.keys2))
+    (λ e. c.in_default.not-Accepted (checked ∙ e))
 
 pub returns-then-bytes-job_length : goal.returns-then-bytes-job_length
 returns-then-bytes-job_length c =

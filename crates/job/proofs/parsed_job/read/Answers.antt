@@ -17,16 +17,25 @@ use Rattle.job.specs.ParsedJob.{parsed_with, parsed_job_of}
 use Rattle.job.proofs.HeaderChecks.{after_header, outcome_by_header, header-passed, passed_or_refused}
 use Rattle.job.proofs.parsed_job.read.Goals as goal
 
--- past the header's tests
-accepted : (c : goal.In_default) → header_outcome_of (length (bytes c)) (header_of (bytes c)) ≡ Accepted
-accepted c = by (passed_or_refused (bytes c))
+-- past the header's tests: what is not refused is accepted
+accepted : {o : Outcome} (s : List ℕ) → o ≡ header_outcome_of (length s) (header_of s) → ((reason : Reason) (row : ℕ) → o ≡ Refused reason row → ⊥)
+    → header_outcome_of (length s) (header_of s) ≡ Accepted
+accepted s e never = by (passed_or_refused s)
   where
-    o : Outcome
-    o = header_outcome_of (length (bytes c)) (header_of (bytes c))
+    tests : Outcome
+    tests = header_outcome_of (length s) (header_of s)
 
-    by : (o ≡ Accepted) ⊎ ((reason : Reason) × (row : ℕ) × (o ≡ Refused reason row)) → o ≡ Accepted
-    by (inl e) = e
-    by (inr r) = let e = outcome c.before ∙ r.2 in ⊎_elim (λ h. absurd (omega arith)) (λ h. absurd (omega arith)) (rw e at c.match.keys2)
+    by : (tests ≡ Accepted) ⊎ ((reason : Reason) × (row : ℕ) × (tests ≡ Refused reason row)) → tests ≡ Accepted
+    by (inl same) = same
+    by (inr r) = absurd (never r.0 r.1 (e ∙ r.2))
+
+-- a parsed job with the outcome that the header's tests leave
+as_defined : (s : List ℕ) (area : ℕ) {found o : Outcome} {r : ParsedJob} → found ≡ header_outcome_of (length s) (header_of s) → found ≡ o
+    → r ≡ parsed_with (after_header o (outcome_of_rows s area)) s
+    → r ≡ parsed_job_of s area
+as_defined s area outcome e reading =
+    let by_header = outcome_by_header s area ∙ ap (λ (x : Outcome). after_header x (outcome_of_rows s area)) (sym outcome ∙ e) in
+    reading ∙ sym (ap (λ (x : Outcome). parsed_with x s) by_header)
 
 pub check_header-requires : goal.check_header-requires
 check_header-requires c = rw c.read_header-header.ensures (fits-header c.args.job.now)
@@ -36,24 +45,19 @@ returns-in-Refused c =
     let bytes : List ℕ = c.args.job.now in
     let area : ℕ = c.args.area in
     let outcome : c.check_header.result ≡ header_outcome_of (length bytes) (header_of bytes) = c.check_header.ensures ∙ ap (header_outcome_of (length bytes)) c.read_header-header.ensures in
-    -- a parsed job with the outcome that the header's tests leave
-    let as-defined : {o : Outcome} {r : ParsedJob} → c.check_header.result ≡ o → r ≡ parsed_with (after_header o (outcome_of_rows bytes area)) bytes → r ≡ parsed_job_of bytes area = (λ {o} e reading. let by-header = outcome_by_header bytes area ∙ ap (λ (x : Outcome). after_header x (outcome_of_rows bytes area)) (sym outcome ∙ e) in
-    reading ∙ sym (ap (λ (x : Outcome). parsed_with x bytes) by-header)) in
-    as-defined c.in-Refused.is c.refused.ensures
+    as_defined bytes area outcome c.in-Refused.is c.refused.ensures
 
 pub read_body-requires : goal.read_body-requires
 read_body-requires c =
     let bytes : List ℕ = c.args.job.now in
+    let outcome : c.check_header.result ≡ header_outcome_of (length bytes) (header_of bytes) = c.check_header.ensures ∙ ap (header_outcome_of (length bytes)) c.read_header-header.ensures in
     let read = c.read_header-header.ensures in
     let s = bytes in
-    (read, rw read (fits-header s), rw read (header-passed s (accepted c)))
+    (read, rw read (fits-header s), rw read (header-passed s (accepted s outcome c.in_default.not-Refused)))
 
 pub returns : goal.returns
 returns c =
     let bytes : List ℕ = c.args.job.now in
     let area : ℕ = c.args.area in
     let outcome : c.check_header.result ≡ header_outcome_of (length bytes) (header_of bytes) = c.check_header.ensures ∙ ap (header_outcome_of (length bytes)) c.read_header-header.ensures in
-    -- a parsed job with the outcome that the header's tests leave
-    let as-defined : {o : Outcome} {r : ParsedJob} → c.check_header.result ≡ o → r ≡ parsed_with (after_header o (outcome_of_rows bytes area)) bytes → r ≡ parsed_job_of bytes area = (λ {o} e reading. let by-header = outcome_by_header bytes area ∙ ap (λ (x : Outcome). after_header x (outcome_of_rows bytes area)) (sym outcome ∙ e) in
-    reading ∙ sym (ap (λ (x : Outcome). parsed_with x bytes) by-header)) in
-    as-defined (outcome ∙ accepted c) c.read_body.ensures
+    as_defined bytes area outcome (outcome ∙ accepted bytes outcome c.in_default.not-Refused) c.read_body.ensures

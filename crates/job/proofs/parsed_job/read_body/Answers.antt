@@ -23,20 +23,18 @@ use Rattle.job.proofs.Deciding.{rows_or_refused, rows-refused, at_7, accepted}
 use Rattle.job.proofs.parsed_job.read_body.Goals as goal
 
 -- a parsed job with an outcome that is known to be the definition's
-as-defined : {r : ParsedJob} {o : Outcome} (c : goal.Start) → r ≡ parsed_with o (bytes c) → outcome_of_rows (bytes c) (area c) ≡ o
-    → r ≡ parsed_with (outcome_of_rows (bytes c) (area c)) (bytes c)
-as-defined c e h = e ∙ sym (ap (λ (x : Outcome). parsed_with x (bytes c)) h)
+as_defined : {r : ParsedJob} {o : Outcome} (s : List ℕ) (area : ℕ) → r ≡ parsed_with o s → outcome_of_rows s area ≡ o
+    → r ≡ parsed_with (outcome_of_rows s area) s
+as_defined s area e h = e ∙ sym (ap (λ (x : Outcome). parsed_with x s) h)
 
--- past them
-passed : (c : goal.In_default) → row_tests (bytes c) Accepted ≡ Accepted
-passed c = by (rows_or_refused (bytes c))
+-- past tests 5, 12 and 6: what is not refused is accepted
+passed : {o : Outcome} (s : List ℕ) → o ≡ row_tests s Accepted → ((reason : Reason) (row : ℕ) → o ≡ Refused reason row → ⊥)
+    → row_tests s Accepted ≡ Accepted
+passed s e never = by (rows_or_refused s)
   where
-    o : Outcome
-    o = row_tests (bytes c) Accepted
-
-    by : (o ≡ Accepted) ⊎ ((reason : Reason) × (row : ℕ) × (o ≡ Refused reason row)) → o ≡ Accepted
-    by (inl e) = e
-    by (inr r) = let e = checked c.before ∙ r.2 in ⊎_elim (λ h. absurd (omega arith)) (λ h. absurd (omega arith)) (rw e at c.match.keys2)
+    by : (row_tests s Accepted ≡ Accepted) ⊎ ((reason : Reason) × (row : ℕ) × (row_tests s Accepted ≡ Refused reason row)) → row_tests s Accepted ≡ Accepted
+    by (inl same) = same
+    by (inr r) = absurd (never r.0 r.1 (e ∙ r.2))
 
 pub read_table-table-requires : goal.read_table-table-requires
 read_table-table-requires c =
@@ -49,7 +47,10 @@ read_table-table-requires c =
     let start = ap (λ (x : Header). x.length) h in
     let marks = c.marks_allowed-marks.ensures ∙ ap (λ (x : Header). marks_allowed x.flags) h in
     let fits_fields = c.requires.1 in
-    ((fits_fields.length_most, fits_fields.bounds.rows_most, fits_fields.bounds.outputs_most, c.requires.2), (start, rows, outputs, marks))
+    record {
+      within = (fits_fields.length_most, fits_fields.bounds.rows_most, fits_fields.bounds.outputs_most, c.requires.2);
+      from_header = (start, rows, outputs, marks);
+    }
 
 pub returns-in-Refused : goal.returns-in-Refused
 unfolding outcome_of_rows
@@ -60,10 +61,10 @@ returns-in-Refused c =
     -- what they say
     let checked : c.check_table-checked.result ≡ row_tests bytes Accepted = (let s = bytes in
     let rows = c.read_table-table.ensures in
-    let range = first_out_of_range_lem s bounds rows.0 rows.2 c.modulus-p.ensures c.first_out_of_range_lem.ensures in
-    table-outcome s c.first_out_of_range_lem.result c.read_table-table.result.points (ap (λ (b : Bounds). b.rows) bounds)
+    let range = first_out_of_range_lem s bounds rows.0 rows.2 c.modulus-p.ensures c.first_out_of_range-found.ensures in
+    table-outcome s c.first_out_of_range-found.result c.read_table-table.result.points (ap (λ (b : Bounds). b.rows) bounds)
     (c.rows_needed-needed.ensures ∙ ap rows_needed_of c.requires.0) range (λ e. rows.3) (λ e r l. ap (λ x. get_or x r 0) rows.0 ∙ points_at s r l) c.check_table-checked.ensures) in
-    as-defined c c.refused.ensures (rows-refused bytes _ (sym checked ∙ c.in-Refused.is))
+    as_defined bytes c.args.area c.refused.ensures (rows-refused bytes _ (sym checked ∙ c.in-Refused.is))
 
 pub answer_length-requires : goal.answer_length-requires
 answer_length-requires c =
@@ -77,15 +78,27 @@ returns-then-area-answer_length c =
     let bytes : List ℕ = c.args.job.now in
     -- the bounds that were read
     let bounds : c.args.header.bounds ≡ bounds_of bytes = ap (λ (h : Header). h.bounds) c.requires.0 in
+    -- what they say
+    let checked : c.check_table-checked.result ≡ row_tests bytes Accepted = (let s = bytes in
+    let rows = c.read_table-table.ensures in
+    let range = first_out_of_range_lem s bounds rows.0 rows.2 c.modulus-p.ensures c.first_out_of_range-found.ensures in
+    table-outcome s c.first_out_of_range-found.result c.read_table-table.result.points (ap (λ (b : Bounds). b.rows) bounds)
+    (c.rows_needed-needed.ensures ∙ ap rows_needed_of c.requires.0) range (λ e. rows.3) (λ e r l. ap (λ x. get_or x r 0) rows.0 ∙ points_at s r l) c.check_table-checked.ensures) in
     -- the length that test 7 asks for
     let needed : c.answer_length.result ≡ answer_length_of (bounds_of bytes) = c.answer_length.ensures ∙ ap answer_length_of bounds in
-    as-defined c c.refused-then-area-answer_length.ensures (at_7 _ _ (lt-ltb _ _ (rw needed at c.if-area-answer_length.true)) (passed c))
+    as_defined bytes c.args.area c.refused-then-area-answer_length.ensures (at_7 _ _ (lt-ltb _ _ (rw needed at c.if-area-answer_length.true)) (passed bytes checked c.in_default.not-Refused))
 
 pub returns : goal.returns
 returns c =
     let bytes : List ℕ = c.args.job.now in
     -- the bounds that were read
     let bounds : c.args.header.bounds ≡ bounds_of bytes = ap (λ (h : Header). h.bounds) c.requires.0 in
+    -- what they say
+    let checked : c.check_table-checked.result ≡ row_tests bytes Accepted = (let s = bytes in
+    let rows = c.read_table-table.ensures in
+    let range = first_out_of_range_lem s bounds rows.0 rows.2 c.modulus-p.ensures c.first_out_of_range-found.ensures in
+    table-outcome s c.first_out_of_range-found.result c.read_table-table.result.points (ap (λ (b : Bounds). b.rows) bounds)
+    (c.rows_needed-needed.ensures ∙ ap rows_needed_of c.requires.0) range (λ e. rows.3) (λ e r l. ap (λ x. get_or x r 0) rows.0 ∙ points_at s r l) c.check_table-checked.ensures) in
     -- the length that test 7 asks for
     let needed : c.answer_length.result ≡ answer_length_of (bounds_of bytes) = c.answer_length.ensures ∙ ap answer_length_of bounds in
     let table = c.read_table-table in
@@ -107,4 +120,4 @@ returns c =
       values = table.ensures.2 i;
       speaking = table.ensures.3 i;
     } in
-    as-defined c reading (accepted _ _ (le-ltb _ _ (rw needed at c.if-area-answer_length.false)) (passed c))
+    as_defined bytes c.args.area reading (accepted _ _ (le-ltb _ _ (rw needed at c.if-area-answer_length.false)) (passed bytes checked c.in_default.not-Refused))
