@@ -14,18 +14,21 @@ use Rattle.job.specs.Form.{header_outcome_of, form_outcome_of}
 use Rattle.job.proofs.HeaderChecks.{after_header, first_by_header, header-passed, refused_first}
 use Rattle.form_check.proofs.check.Goals as goal
 
+-- what the tests of the header leave
+by_header : (s : List ℕ) {found o : Outcome} → found ≡ header_outcome_of (length s) (header_of s) → found ≡ o
+    → after_header o (row_tests s Accepted) ≡ form_outcome_of s
+unfolding form_outcome_of
+by_header s outcome e = sym (first_by_header s Accepted ∙ ap (λ (x : Outcome). after_header x (row_tests s Accepted)) (sym outcome ∙ e))
+
 pub check_header-outcome-requires : goal.check_header-outcome-requires
 check_header-outcome-requires c = rw c.read_header-header.ensures (fits-header c.args.job.now)
 
 pub returns-in_default : goal.returns-in_default
-unfolding form_outcome_of
 returns-in_default c =
     let bytes : List ℕ = c.args.job.now in
     let outcome : c.check_header-outcome.result ≡ header_outcome_of (length bytes) (header_of bytes) = c.check_header-outcome.ensures ∙ ap (header_outcome_of (length bytes)) c.read_header-header.ensures in
-    -- what the tests of the header leave
-    let by-header : {o : Outcome} → c.check_header-outcome.result ≡ o → after_header o (row_tests bytes Accepted) ≡ form_outcome_of bytes = (λ e. sym (first_by_header bytes Accepted ∙ ap (λ (x : Outcome). after_header x (row_tests bytes Accepted)) (sym outcome ∙ e))) in
-    refused_first _ (row_tests bytes Accepted) (λ e. ⊎_elim (λ h. omega arith) (λ h. omega arith) (rw e at c.in_default.keys2))
-    ∙ by-header refl
+    refused_first _ (row_tests bytes Accepted) c.in_default.not-Accepted
+    ∙ by_header bytes outcome refl
 
 pub check_rows-requires : goal.check_rows-requires
 check_rows-requires c =
@@ -36,10 +39,7 @@ check_rows-requires c =
     (read, rw read (fits-header s), rw read (header-passed s (sym outcome ∙ c.in-Accepted.is)))
 
 pub returns : goal.returns
-unfolding form_outcome_of
 returns c =
     let bytes : List ℕ = c.args.job.now in
     let outcome : c.check_header-outcome.result ≡ header_outcome_of (length bytes) (header_of bytes) = c.check_header-outcome.ensures ∙ ap (header_outcome_of (length bytes)) c.read_header-header.ensures in
-    -- what the tests of the header leave
-    let by-header : {o : Outcome} → c.check_header-outcome.result ≡ o → after_header o (row_tests bytes Accepted) ≡ form_outcome_of bytes = (λ e. sym (first_by_header bytes Accepted ∙ ap (λ (x : Outcome). after_header x (row_tests bytes Accepted)) (sym outcome ∙ e))) in
-    c.check_rows.ensures ∙ by-header c.in-Accepted.is
+    c.check_rows.ensures ∙ by_header bytes outcome c.in-Accepted.is

@@ -35,5 +35,5 @@ returns c =
     -- the bounds that were read
     let bounds : c.args.header.bounds ≡ bounds_of bytes = ap (λ (h : Header). h.bounds) c.requires.0 in
     let scanned = c.scan_rows-scanned.ensures in
-    table-outcome bytes c.scan_rows-scanned.result.found c.scan_rows-scanned.new.1.1.1.1.1.1.0 (ap (λ (b : Bounds). b.rows) bounds)
+    table-outcome bytes c.scan_rows-scanned.result.found c.scan_rows-scanned.new.points (ap (λ (b : Bounds). b.rows) bounds)
     (c.rows_needed-needed.ensures ∙ ap rows_needed_of c.requires.0) scanned.found scanned.speaking scanned.points-read c.check_table.ensures
