@@ -1,15 +1,14 @@
 -- The tests one after the other: each that fails refutes, and together they prove.
 use mathlib.Core.Path.{◌≡◌, sym, ap, ◌∙◌}
-use mathlib.Core.Bool.{false}
+use mathlib.Core.Bool.{Bool, false}
 use mathlib.Core.List.{List}
 use Prim.Native.Nat.{ℕ, ◌-◌, ◌<◌}
 use native.Mathlib.Omega.{arith}
-use lib.ListN.{length, take, drop, length-drop}
+use lib.ListN.{length, take, drop, length-drop, length-take}
 use lib.Seq.{take_all}
-use borrow.Author.Tests.{not-true, not-false}
 use Rattle.lists.proofs.Truth.{clash, refuted}
 use Rattle.format.specs.declared.Bounds.{Bounds}
-use Rattle.poly.specs.Vectors.{coefficients_at}
+use Rattle.format.specs.Bounds.{answer_length_of, FitsPolynomials}
 use Rattle.problem.specs.Reduced.{Same}
 use Rattle.problem.specs.Answers.{Within}
 use Rattle.problem.proofs.Same.{same_sym, same_if_equal, within_same, reduced-same}
@@ -19,74 +18,73 @@ use Rattle.offered_answer.specs.Tests.{offered_denominator, offered_numerator}
 use Rattle.offered_answer.proofs.Testing.{agree_same}
 use Rattle.offered_answer.proofs.passes.Goals as goal
 
-pub within : Within (b read) (coefficients_at c.read_vector.result.f) c.read_vector.result.g.c
-within =
-    let low = not_large (b read) (drop 4 (a read)) below in
-    within_same (same_sym (listed read)) (record {
-      numerators = numerator_bounded (b read) c.pre.1 (drop 4 (a read)) (size read) low;
-      denominator = denominator_bounded (b read) c.pre.1 (drop 4 (a read)) (size read) low;
-    })
+-- the part of the offered bytes behind their word, as the code takes it
+abbrev behind : List ℕ → List ℕ
+behind a = take (length a - 4) (drop 4 a)
+
+whole : (a : List ℕ) → behind a ≡ drop 4 a
+whole a = take_all (length a - 4) (drop 4 a) (omega (arith, length-drop 4 a))
+
+large : (b : Bounds) (a : List ℕ) {x : Bool} → x ≡ any_too_large b (behind a) → x ≡ any_too_large b (drop 4 a)
+large b a e = e ∙ ap (any_too_large b) (whole a)
+
+-- what was read of it: the numerators f and the denominator g
+module _ (b : Bounds) (a : List ℕ) {f : ℕ → List ℕ} {g : List ℕ} (eg : g ≡ denominator_of b (behind a))
+    (ef : (i : ℕ) → i < b.outputs → f i ≡ numerator_of b (behind a) i) where
+  listed : Same b.outputs f g (offered_numerator b a) (offered_denominator b a)
+  listed = same_if_equal (λ i l. ef i l ∙ ap (λ t. numerator_of b t i) (whole a)) (eg ∙ ap (denominator_of b) (whole a))
+
+  within : FitsPolynomials b → length a ≡ answer_length_of b → any_too_large b (drop 4 a) ≡ false → Within b f g
+  within fits size below =
+      let behind_size : length (drop 4 a) ≡ coefficient_length_of b = omega (arith, length-drop 4 a) in
+      let low = not_large b (drop 4 a) below in
+      within_same (same_sym listed) (record {
+        numerators = numerator_bounded b fits (drop 4 a) behind_size low;
+        denominator = denominator_bounded b fits (drop 4 a) behind_size low;
+      })
 
 pub returns-then-v : goal.returns-then-v
 returns-then-v c =
-    let b : Bounds = c.args.b in
-    let a : List ℕ = c.args.offered.now in
-    -- the part behind the word
-    let behind : take (length a - 4) (drop 4 a) ≡ drop 4 a = take_all (length a - 4) (drop 4 a) (omega (arith, length-drop 4 a)) in
-    let large : c.read_vector-v.result.large ≡ any_too_large b (drop 4 a) = c.read_vector-v.ensures.1.1.1 ∙ ap (any_too_large b) behind in
-    refuted (λ p. clash (sym c.if-v.true ∙ large ∙ p.below))
+    refuted (λ p. clash (sym c.if-v.true ∙ large c.args.b c.args.offered.now c.read_vector-v.ensures.range ∙ p.below))
 
 pub rows_agree-requires : goal.rows_agree-requires
 rows_agree-requires c =
-    ((start c).pre.0, (start c).pre.1, within c)
+    let b = c.args.b in
+    let a = c.args.offered.now in
+    let v = c.read_vector-v in
+    let below : any_too_large b (drop 4 a) ≡ false = sym (large b a v.ensures.range) ∙ c.if-v.false in
+    (c.requires.0, c.requires.1, within b a v.ensures.denominator v.ensures.numerators c.requires.1 c.requires.2 below)
 
 pub returns-then-not-rows_agree : goal.returns-then-not-rows_agree
 returns-then-not-rows_agree c =
-    let b : Bounds = c.args.b in
-    let a : List ℕ = c.args.offered.now in
-    -- the part behind the word
-    let behind : take (length a - 4) (drop 4 a) ≡ drop 4 a = take_all (length a - 4) (drop 4 a) (omega (arith, length-drop 4 a)) in
-    let denominator : c.read_vector-v.result.g.c ≡ offered_denominator b a = c.read_vector-v.ensures.0 ∙ ap (denominator_of b) behind in
-    let numerators : (i : ℕ) → i < b.outputs → coefficients_at c.read_vector-v.result.f i ≡ offered_numerator b a i = (λ i l. c.read_vector-v.ensures.1.0 i l ∙ ap (λ t. numerator_of b t i) behind) in
-    let listed : Same b.outputs (coefficients_at c.read_vector-v.result.f) c.read_vector-v.result.g.c (offered_numerator b a) (offered_denominator b a) = same_if_equal numerators denominator in
+    let read = c.read_vector-v.ensures in
+    let same = listed c.args.b c.args.offered.now read.denominator read.numerators in
     let word = c.offered_word-word.ensures in
-    refuted (λ p. clash (sym (c.rows_agree.ensures.1 (rw word (agree_same (same_sym listed) p.rows))) ∙ not-true _ c.if-not-rows_agree.true))
+    refuted (λ p. clash (sym (c.rows_agree.ensures.1 (rw word (agree_same (same_sym same) p.rows))) ∙ c.if-not-rows_agree.true))
 
 pub is_reduced-requires : goal.is_reduced-requires
 is_reduced-requires c =
-    let b : Bounds = c.args.b in
-    let a : List ℕ = c.args.offered.now in
-    -- the part behind the word
-    let behind : take (length a - 4) (drop 4 a) ≡ drop 4 a = take_all (length a - 4) (drop 4 a) (omega (arith, length-drop 4 a)) in
-    let size : length (drop 4 a) ≡ coefficient_length_of b = omega (arith, length-drop 4 a, c.requires.2) in
-    let denominator : c.read_vector-v.result.g.c ≡ offered_denominator b a = c.read_vector-v.ensures.0 ∙ ap (denominator_of b) behind in
-    let numerators : (i : ℕ) → i < b.outputs → coefficients_at c.read_vector-v.result.f i ≡ offered_numerator b a i = (λ i l. c.read_vector-v.ensures.1.0 i l ∙ ap (λ t. numerator_of b t i) behind) in
-    let large : c.read_vector-v.result.large ≡ any_too_large b (drop 4 a) = c.read_vector-v.ensures.1.1.1 ∙ ap (any_too_large b) behind in
-    let below : any_too_large (b read) (drop 4 (a read)) ≡ false = sym (large read) ∙ c.if-v.false in
-    let low = not_large b (drop 4 a) below in (
-      omega (arith, c.requires.1.few),
-      rw denominator (denominator_stored b c.requires.1 (drop 4 a) size low),
-      (λ i l.
-          let exists : i < b.outputs = omega (arith, l) in
-          rw (numerators i exists) (numerator_stored b c.requires.1 (drop 4 a) size low i exists)),
+    let b = c.args.b in
+    let s = behind c.args.offered.now in
+    let read = c.read_vector-v.ensures in
+    let size : length s ≡ coefficient_length_of b = omega (arith, length-drop 4 c.args.offered.now, length-take {A = ℕ}) in
+    let low = not_large b s (sym read.range ∙ c.if-v.false) in (
+      c.requires.1.few,
+      rw read.denominator (denominator_stored b c.requires.1 s size low),
+      (λ i l. rw (read.numerators i l) (numerator_stored b c.requires.1 s size low i l)),
     )
 
 pub returns : goal.returns
 returns c =
-    let b : Bounds = c.args.b in
-    let a : List ℕ = c.args.offered.now in
-    -- the part behind the word
-    let behind : take (length a - 4) (drop 4 a) ≡ drop 4 a = take_all (length a - 4) (drop 4 a) (omega (arith, length-drop 4 a)) in
-    let denominator : c.read_vector-v.result.g.c ≡ offered_denominator b a = c.read_vector-v.ensures.0 ∙ ap (denominator_of b) behind in
-    let numerators : (i : ℕ) → i < b.outputs → coefficients_at c.read_vector-v.result.f i ≡ offered_numerator b a i = (λ i l. c.read_vector-v.ensures.1.0 i l ∙ ap (λ t. numerator_of b t i) behind) in
-    let large : c.read_vector-v.result.large ≡ any_too_large b (drop 4 a) = c.read_vector-v.ensures.1.1.1 ∙ ap (any_too_large b) behind in
-    let listed : Same b.outputs (coefficients_at c.read_vector-v.result.f) c.read_vector-v.result.g.c (offered_numerator b a) (offered_denominator b a) = same_if_equal numerators denominator in
-    let below : any_too_large (b read) (drop 4 (a read)) ≡ false = sym (large read) ∙ c.if-v.false in
+    let b = c.args.b in
+    let a = c.args.offered.now in
+    let read = c.read_vector-v.ensures in
+    let same = listed b a read.denominator read.numerators in
     let word = c.offered_word-word.ensures in (
       λ reduced. record {
-        below = below;
-        reduced = reduced-same listed (c.is_reduced.ensures.0 reduced);
-        rows = agree_same listed (rw word at (c.rows_agree.ensures.0 (not-false _ c.if-not-rows_agree.false)));
+        below = sym (large b a read.range) ∙ c.if-v.false;
+        reduced = reduced-same same (c.is_reduced.ensures.0 reduced);
+        rows = agree_same same (rw word at (c.rows_agree.ensures.0 c.if-not-rows_agree.false));
       },
-      λ p. c.is_reduced.ensures.1 (reduced-same (same_sym listed) p.reduced),
+      λ p. c.is_reduced.ensures.1 (reduced-same (same_sym same) p.reduced),
     )
