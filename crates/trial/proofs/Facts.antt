@@ -16,7 +16,7 @@ use Rattle.header.specs.Header.{header_length_of, bounds_of, header_of, rows_nee
 use Rattle.header_rules.specs.Rules.{too_short, added_header_broken}
 use Rattle.lists.proofs.Truth.{or-false}
 use Rattle.lists.specs.Search.{if_holds}
-use Rattle.job.specs.Refusals.{too_few_rows, refuse}
+use Rattle.job.specs.Refusals.{too_few_rows}
 use Rattle.job.proofs.Forms.{Decisive, refuse_decisive}
 use Rattle.job.proofs.Facts.{refused_not_accepted, passed, does_not_hold}
 use Rattle.answer.specs.Coefficients.{coefficient_length_of, any_too_large}

@@ -1,12 +1,18 @@
 -- Each branch is the first test that applies: 9 by either of two comparisons, then 5.
+use Prim.Native.Nat.{ℕ, ◌≤◌}
 use mathlib.Core.Bool.{false}
 use mathlib.Core.Path.{◌≡◌, refl, sym, ◌∙◌}
 use borrow.Author.Tests.{lt-ltb, le-ltb}
 use lib.Dec.{ltb}
+use Rattle.format.specs.declared.Bounds.{Bounds}
 use Rattle.format.specs.Bounds.{prime_of}
 use Rattle.trial.specs.Refusals.{too_many_rows}
 use Rattle.trial.proofs.Deciding.{or_second, at_9, at_5, past_5}
 use Rattle.trial.proofs.check_numbers.Goals as goal
+
+-- test 9 does not apply
+not-9 : (b : Bounds) (w : ℕ) {p : ℕ} → p ≡ prime_of b → b.rows ≤ p → w ≤ b.rows → too_many_rows b w ≡ false
+not-9 b w same few within = rw (le-ltb _ _ (rw same at few), le-ltb _ _ within) refl
 
 pub returns-then-modulus-rows : goal.returns-then-modulus-rows
 returns-then-modulus-rows c =
@@ -21,14 +27,10 @@ returns-then-rows-spoiled c =
 
 pub returns-then-v : goal.returns-then-v
 returns-then-v c =
-    -- test 9 does not apply
-    let not-9 : too_many_rows c.args.b c.args.spoiled ≡ false = (let p = c.modulus.ensures in
-    rw (le-ltb _ _ (rw p at c.if-modulus-rows.false), le-ltb _ _ c.if-rows-spoiled.false) refl) in
-    c.refused-then-v.ensures ∙ sym (at_5 _ _ _ _ not-9 (sym c.read_vector-v.ensures.1.1.1 ∙ c.if-v.true))
+    let past = not-9 c.args.b c.args.spoiled c.modulus.ensures c.if-modulus-rows.false c.if-rows-spoiled.false in
+    c.refused-then-v.ensures ∙ sym (at_5 _ _ _ _ past (sym c.read_vector-v.ensures.range ∙ c.if-v.true))
 
 pub returns : goal.returns
 returns c =
-    -- test 9 does not apply
-    let not-9 : too_many_rows c.args.b c.args.spoiled ≡ false = (let p = c.modulus.ensures in
-    rw (le-ltb _ _ (rw p at c.if-modulus-rows.false), le-ltb _ _ c.if-rows-spoiled.false) refl) in
-    sym (past_5 _ _ _ _ not-9 (sym c.read_vector-v.ensures.1.1.1 ∙ c.if-v.false))
+    let past = not-9 c.args.b c.args.spoiled c.modulus.ensures c.if-modulus-rows.false c.if-rows-spoiled.false in
+    sym (past_5 _ _ _ _ past (sym c.read_vector-v.ensures.range ∙ c.if-v.false))

@@ -1,13 +1,12 @@
 -- By the column: the point, the first value with what is added to it, another value. The sum fits since both are below p.
 use Prim.Native.Nat.{◌+◌, ◌-◌, ◌%◌}
-use mathlib.Core.Path.{◌≡◌, ap₂}
+use mathlib.Core.Path.{ap₂}
 use native.Mathlib.Omega.{arith}
 use lib.ListN.{get_or}
 use Rattle.field.specs.Primes.{modulus_of}
 use Rattle.field.proofs.Moduli.{modulus_prime, modulus_positive, modulus_small}
 use Rattle.poly.specs.Vectors.{coefficients_at}
 use Rattle.poly.proofs.Values.{value_below}
-use Rattle.trial.specs.Rows.{value_before}
 use Rattle.trial.proofs.Values.{value_before_below}
 use Rattle.trial.proofs.Numbers.{value-computed, number_point, number_first, number_other}
 use Rattle.trial.proofs.job_rows.number_at.Goals as goal
@@ -27,21 +26,19 @@ quotient-y-requires c =
 
 pub overflow_add-result : goal.overflow_add-result
 overflow_add-result c =
-    -- what the quotient is
-    let value :     c.quotient-y.result ≡ value_before (modulus_of c.args.q) (coefficients_at c.args.f) c.args.g.c c.args.r (c.args.column - 1) =     value-computed (modulus_of c.args.q) (coefficients_at c.args.f) c.args.g.c c.args.r (c.args.column - 1) c.value_at.ensures c.value_at-2.ensures c.quotient-y.ensures in
-    let q = c.args.q in
-    let y = value_before_below (modulus_prime q) (coefficients_at c.args.f) c.args.g.c c.args.r (c.args.column - 1) in
-    omega (arith, value, y, c.requires.4, modulus_small q)
+    let g = c.args in
+    let before = value_before_below (modulus_prime g.q) (coefficients_at g.f) g.g.c g.r (g.column - 1) in
+    let value = value-computed (modulus_of g.q) (coefficients_at g.f) g.g.c g.r (g.column - 1) c.value_at.ensures c.value_at-2.ensures c.quotient-y.ensures in
+    omega (arith, c.requires.4, modulus_small g.q)
 
 pub returns-then-column-eq1 : goal.returns-then-column-eq1
 returns-then-column-eq1 c =
-    -- what the quotient is
-    let value :     c.quotient-y.result ≡ value_before (modulus_of c.args.q) (coefficients_at c.args.f) c.args.g.c c.args.r (c.args.column - 1) =     value-computed (modulus_of c.args.q) (coefficients_at c.args.f) c.args.g.c c.args.r (c.args.column - 1) c.value_at.ensures c.value_at-2.ensures c.quotient-y.ensures in
-    number_first _ _ _ _ _ c.args.column c.if-column-eq1.true
-    (ap₂ (λ y p. (y + get_or c.args.by.now c.args.r 0) % p) value c.modulus.ensures)
+    let g = c.args in
+    let value = value-computed (modulus_of g.q) (coefficients_at g.f) g.g.c g.r (g.column - 1) c.value_at.ensures c.value_at-2.ensures c.quotient-y.ensures in
+    number_first _ _ _ _ _ g.column c.if-column-eq1.true (ap₂ (λ y p. (y + get_or g.by.now g.r 0) % p) value c.modulus.ensures)
 
 pub returns : goal.returns
 returns c =
-    -- what the quotient is
-    let value :     c.quotient-y.result ≡ value_before (modulus_of c.args.q) (coefficients_at c.args.f) c.args.g.c c.args.r (c.args.column - 1) =     value-computed (modulus_of c.args.q) (coefficients_at c.args.f) c.args.g.c c.args.r (c.args.column - 1) c.value_at.ensures c.value_at-2.ensures c.quotient-y.ensures in
-    number_other _ _ _ _ _ c.args.column c.if-column-eq0.false c.if-column-eq1.false value
+    let g = c.args in
+    let value = value-computed (modulus_of g.q) (coefficients_at g.f) g.g.c g.r (g.column - 1) c.value_at.ensures c.value_at-2.ensures c.quotient-y.ensures in
+    number_other _ _ _ _ _ g.column c.if-column-eq0.false c.if-column-eq1.false value

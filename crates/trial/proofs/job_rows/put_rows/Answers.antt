@@ -1,4 +1,4 @@
-use Prim.Native.Nat.{◌+◌, ◌-◌, ◌*◌, ◌/◌, ◌%◌, ◌≤◌}
+use Prim.Native.Nat.{◌+◌, ◌*◌, ◌/◌, ◌%◌, ◌≤◌}
 use mathlib.Core.Path.{◌≡◌, refl, sym, ap, ◌∙◌}
 use native.Mathlib.Nat.{mod-lt}
 use native.Mathlib.Omega.{arith}
@@ -33,10 +33,10 @@ loop-k-preserved c =
     let number = c.number_at-number in
     let room : g.start + c.loop-k.written ≤ length g.area.now = omega arith in (
       omega arith,
-      r.auto.0 ∙ c.loop-k.invariant.1,
+      r.auto.area ∙ c.loop-k.invariant.1,
       omega (arith, r.ensures.0),
       next_number (λ j. trial_number (modulus_of g.b.prime) (coefficients_at g.f) g.g.c (λ i. get_or g.by.now i 0) (j / width) (j % width))
-          (g.b.rows * width) g.start k c.loop-k.written number.result g.area.now c.loop-k.area r.new.0 (omega arith) number.ensures c.loop-k.invariant.2 room c.loop-k.invariant.3 r.ensures.1,
+          (g.b.rows * width) g.start k c.loop-k.written number.result g.area.now c.loop-k.area r.new.area (omega arith) number.ensures c.loop-k.invariant.2 room c.loop-k.invariant.3 r.ensures.1,
     )
 
 pub returns : goal.returns
