@@ -24,15 +24,15 @@ returns-in_default c =
     -- what the tests say with an area of 254 bytes is what a check for form says
     let job : List ℕ = c.args.job.now in
     let read : c.read-parsed.result.outcome ≡ form_outcome_of job = ap (λ (r : ParsedJob). r.outcome) c.read-parsed.ensures ∙ parsed_outcome job 254 ∙ sym (form_with_room job) in
-    sym (margin-refused job _ (λ e. ⊎_elim (λ h. omega arith) (λ h. omega arith) (rw (read ∙ e) at c.in_default.keys2)))
+    sym (margin-refused job _ (λ e. c.in_default.not-Accepted (read ∙ e)))
 
 pub returns : goal.returns
 returns c =
     -- what the tests say with an area of 254 bytes is what a check for form says
     let job : List ℕ = c.args.job.now in
     let read : c.read-parsed.result.outcome ≡ form_outcome_of job = ap (λ (r : ParsedJob). r.outcome) c.read-parsed.ensures ∙ parsed_outcome job 254 ∙ sym (form_with_room job) in
-    let accepted : form_outcome_of (job here) ≡ Accepted = sym (read here) ∙ c.in-Accepted.is in
-    let whole : c.read-parsed.result ≡ parsed_with Accepted (job here) = c.read-parsed.ensures ∙ parsed_accepted (job here) 254 (sym (form_with_room (job here)) ∙ accepted) in
+    let accepted : form_outcome_of job ≡ Accepted = sym read ∙ c.in-Accepted.is in
+    let whole : c.read-parsed.result ≡ parsed_with Accepted job = c.read-parsed.ensures ∙ parsed_accepted job 254 (sym (form_with_room job) ∙ accepted) in
     let wrong = c.args.wrong in
     let margin : ParsedJob → Header → ℕ = λ r h. excess_of r.speaking (h.df + r.bounds.dg + 2 * wrong) in
     c.excess.ensures ∙ ap₂ margin whole c.read_header-header.ensures ∙ sym (margin_by_lem job wrong accepted)
@@ -43,9 +43,9 @@ excess-requires c =
     -- what the tests say with an area of 254 bytes is what a check for form says
     let job : List ℕ = c.args.job.now in
     let read : c.read-parsed.result.outcome ≡ form_outcome_of job = ap (λ (r : ParsedJob). r.outcome) c.read-parsed.ensures ∙ parsed_outcome job 254 ∙ sym (form_with_room job) in
-    let accepted : form_outcome_of (job here) ≡ Accepted = sym (read here) ∙ c.in-Accepted.is in
-    let whole : c.read-parsed.result ≡ parsed_with Accepted (job here) = c.read-parsed.ensures ∙ parsed_accepted (job here) 254 (sym (form_with_room (job here)) ∙ accepted) in
-    let speaking-few : speaking_count (job here) ≤ 31 = omega (arith, count_most (bounds_of (job here)).rows (speaks (job here)), (fits_fields (job here)).rows_most) in
+    let accepted : form_outcome_of job ≡ Accepted = sym read ∙ c.in-Accepted.is in
+    let whole : c.read-parsed.result ≡ parsed_with Accepted job = c.read-parsed.ensures ∙ parsed_accepted job 254 (sym (form_with_room job) ∙ accepted) in
+    let speaking-few : speaking_count job ≤ 31 = omega (arith, count_most (bounds_of job).rows (speaks job), (fits_fields job).rows_most) in
     let fields = whole in
     let s = job in (
       omega (arith, ap (λ (r : ParsedJob). r.speaking) fields, speaking-few),
