@@ -6,7 +6,7 @@ use Rattle.job.specs.ParsedJob.{parsed_job_of}
 use Rattle.lists.specs.Overwriting.{overwritten}
 use Rattle.margin.specs.RecoveredMargin.{RecoveredMargin}
 use Rattle.text.specs.Text.{text_of}
-use Rattle.io.specs.Counts.{IsPrefixLen}
+use Rattle.std.specs.Counts.{IsPrefixLen}
 
 -- the area that the program lends to the recovery: 254 bytes, which no answer exceeds, all 0
 abbrev pub answer_area : List ℕ

@@ -1,10 +1,11 @@
 // The printing program of paper 01: reads one job from standard input and prints what the recovery finds.
 #![tactic(auto)]
 
-ghost use Rattle.std.specs.Prelude.{◌≤◌, length};
+ghost use Rattle.std.specs.Prelude.{◌≤◌, length, IfOk};
 ghost use Rattle.print.specs.Printed.{Printed};
 
-use libc::{STDIN_FILENO, STDOUT_FILENO};
+use std::io;
+use std::io::{Read, Write};
 use text::Written;
 
 // Recovers a job into an area of 254 bytes, which no answer exceeds, and writes the text of what came out to the buffer's start; returns the text's length.
@@ -25,15 +26,30 @@ fn recovered_text(bytes: &[u8], buffer: &mut [u8]) -> usize
     }
 }
 
-fn print(bytes: &[u8]) {
+fn print(rt: &impl Print, bytes: &[u8]) -> io::Result<()> {
     let mut buffer = [0u8; 1280];
     let count = recovered_text(bytes, &mut buffer);
-    io::write_all(STDOUT_FILENO, &buffer[..count]);
+    io::writer(rt).write_all(&buffer[..count])
+}
+
+// Reads until the bytes are full or the input ends; returns how many were read.
+fn read_full(input: &mut impl Read, bytes: &mut [u8]) -> io::Result<usize>
+    ensures { IfOk result (λ n. n ≤ length bytes.new) }
+{
+    let mut count = 0;
+    for _ in 0..bytes.len() {
+        let got = input.read(&mut bytes[count..])?;
+        if got == 0 {
+            break;
+        }
+        count += got;
+    }
+    Ok(count)
 }
 
 // A job has at most 317 bytes; one more is read, so that a longer input is refused.
-fn main() {
+fn main(rt: HostRuntime) -> io::Result<()> {
     let mut bytes = [0u8; 318];
-    let count = io::read_full(STDIN_FILENO, &mut bytes);
-    print(&bytes[..count]);
+    let count = read_full(&mut rt.reader(), &mut bytes)?;
+    print(&rt, &bytes[..count])
 }

@@ -9,16 +9,17 @@
 // each byte are two hex digits.
 #![tactic(auto)]
 
-ghost use Rattle.std.specs.Prelude.{◌≤◌, ◌<◌};
-ghost use Rattle.io.specs.Counts.{IsPrefixLen};
+ghost use Rattle.std.specs.Prelude.{◌≤◌, ◌<◌, IfOk};
+ghost use Rattle.std.specs.Counts.{IsPrefixLen};
 
-use libc::{STDIN_FILENO, STDOUT_FILENO};
+use std::io;
+use std::io::{Read, Write};
 
 // The next byte of standard input, or 0 at its end.
-fn next() -> u8 {
+fn next(input: &mut impl Read) -> io::Result<u8> {
     let mut byte = [0u8; 1];
-    io::read_full(STDIN_FILENO, &mut byte);
-    byte[0]
+    input.read(&mut byte)?;
+    Ok(byte[0])
 }
 
 // The value of a hex digit.
@@ -28,67 +29,65 @@ fn digit(c: u8) -> u8
     (c % 16 + 9 * (c / 64)) % 16
 }
 
-fn read_byte() -> u8 {
-    let high = digit(next());
-    let low = digit(next());
-    16 * high + low
+fn read_byte(input: &mut impl Read) -> io::Result<u8> {
+    let high = digit(next(input)?);
+    let low = digit(next(input)?);
+    Ok(16 * high + low)
 }
 
 // The length of the answer area.
-fn read_area() -> usize {
-    read_byte() as usize
+fn read_area(input: &mut impl Read) -> io::Result<usize> {
+    Ok(read_byte(input)? as usize)
 }
 
 // Copies a job's name to standard output, and skips the colon; false at the end of the input.
-fn copy_name() -> bool {
+fn copy_name(rt: &impl Print, input: &mut impl Read) -> io::Result<bool> {
     for _ in 0usize..32 {
-        let c = next();
+        let c = next(input)?;
         if c == 0 {
-            return false;
+            return Ok(false);
         }
         if c == b':' {
-            return true;
+            return Ok(true);
         }
-        io::write_all(STDOUT_FILENO, &[c]);
+        io::writer(rt).write_all(&[c])?;
     }
-    false
+    Ok(false)
 }
 
 // Reads the job's bytes to the end of the line; returns how many there are.
-fn read_job(bytes: &mut [u8]) -> usize
-    ensures { IsPrefixLen result bytes.new }
+fn read_job(input: &mut impl Read, bytes: &mut [u8]) -> io::Result<usize>
+    ensures { IfOk result (λ n. IsPrefixLen n bytes.new) }
 {
     let mut count = 0;
     while count < bytes.len() {
-        if next() == b'\n' {
-            return count;
+        if next(input)? == b'\n' {
+            return Ok(count);
         }
-        bytes[count] = read_byte();
+        bytes[count] = read_byte(input)?;
         count += 1;
     }
-    count
+    Ok(count)
 }
 
-fn show_numbers(word: &[u8], first: u32, second: u32) {
-    io::write_all(STDOUT_FILENO, word);
-    io::print_decimal(STDOUT_FILENO, first as u64);
-    io::write_all(STDOUT_FILENO, b" ");
-    io::print_decimal(STDOUT_FILENO, second as u64);
+fn show_numbers(rt: &impl Print, word: &str, first: u32, second: u32) -> io::Result<()> {
+    print!(rt; "{word}{first} {second}")
 }
 
-fn show_outcome(outcome: format::Outcome) {
+fn show_outcome(rt: &impl Print, outcome: format::Outcome) -> io::Result<()> {
     let report = format::reported(outcome);
     if report.refusal == 0 {
-        show_numbers(b" recovered ", report.written, report.wrong);
-        return;
+        return show_numbers(rt, " recovered ", report.written, report.wrong);
     }
-    show_numbers(b" refused ", report.refusal, report.row);
+    show_numbers(rt, " refused ", report.refusal, report.row)
 }
 
-fn show_bytes(bytes: &[u8; 20]) {
+fn show_bytes(rt: &impl Print, bytes: &[u8; 20]) -> io::Result<()> {
     for k in 0..20 {
-        io::print_hex(STDOUT_FILENO, wide(bytes[k]), 2);
+        let byte = wide(bytes[k]);
+        print!(rt; "{byte:02x}")?;
     }
+    Ok(())
 }
 
 fn wide(byte: u8) -> u64 {
@@ -96,35 +95,37 @@ fn wide(byte: u8) -> u64 {
 }
 
 // The answer area is the first bytes of the memory.
-fn show(job: &[u8], area: usize)
+fn show(rt: &impl Print, job: &[u8], area: usize) -> io::Result<()>
     requires { area ≤ 20 }
 {
     let mut memory = [0xA5u8; 20];
     let outcome = recovery::recover(job, &mut memory[0..area]);
-    show_outcome(outcome);
-    io::write_all(STDOUT_FILENO, b" ");
-    show_bytes(&memory);
-    io::write_all(STDOUT_FILENO, b"\n");
+    show_outcome(rt, outcome)?;
+    print!(rt; " ")?;
+    show_bytes(rt, &memory)?;
+    print!(rt; "\n")
 }
 
-fn show_next() -> bool {
+fn show_next(rt: &impl Print, input: &mut impl Read) -> io::Result<bool> {
     let mut job = [0u8; 320];
-    if !copy_name() {
-        return false;
+    if !copy_name(rt, input)? {
+        return Ok(false);
     }
-    let area = read_area();
-    let count = read_job(&mut job);
+    let area = read_area(input)?;
+    let count = read_job(input, &mut job)?;
     if 20 < area {
-        return false;
+        return Ok(false);
     }
-    show(&job[..count], area);
-    true
+    show(rt, &job[..count], area)?;
+    Ok(true)
 }
 
-fn main() {
+fn main(rt: HostRuntime) -> io::Result<()> {
+    let mut input = rt.reader();
     for _ in 0usize..1000 {
-        if !show_next() {
-            return;
+        if !show_next(&rt, &mut input)? {
+            return Ok(());
         }
     }
+    Ok(())
 }

@@ -18,5 +18,5 @@ returns c =
     let t = c.trial-writing in
     let a = c.args in
     let end : c.bytes_written-end.result - 0 ≡ (writing_report_of t.result).written = omega (arith, c.bytes_written-end.ensures) in
-    trial-recovered _ _ _ _ _ t.ensures (λ k. (c.type_inv.job k).fits) _
+    trial-recovered _ _ _ _ _ t.ensures (λ k. (c.type_inv.coefficients k).fits) _
     (subst (λ k. Settled (take k t.new.area) a.area.now (report_of c.recover-recovery.result) c.recover-recovery.new.area) end c.recover-recovery.ensures)
