@@ -9,7 +9,7 @@ use lib.Dec.{ltb}
 use Rattle.lists.proofs.Order.{lt_or_ge}
 use native.Mathlib.Omega.{arith}
 use Rattle.format.specs.declared.Bounds.{Bounds}
-use Rattle.format.specs.Bounds.{numerator_bound_of, largest_bound, numerator_count, FitsPolynomials, EnoughRows}
+use Rattle.format.specs.Bounds.{numerator_bound_of, largest_bound, numerator_count, EnoughRows}
 
 pub numerator_low : {b : Bounds} → EnoughRows b → (j : ℕ) → numerator_bound_of b j ≤ 30
 numerator_low s j = let e = s.enough j in let r = s.rows in omega arith

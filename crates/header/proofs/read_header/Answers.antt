@@ -16,20 +16,20 @@ field_at s {v} k bits e h = subst (λ (x : ℕ). v ≡ field_of s x bits) e h
 pub overflow_add-n : goal.overflow_add-n
 overflow_add-n c =
     let bytes : List ℕ = c.args.s.now in
-    let outputs : c.size-n.result ≡ field_of bytes 2 2 =     c.size-n.ensures ∙ field_at bytes 2 2 (omega arith) c.take-outputs.ensures.0 in
+    let outputs : c.size-n.result ≡ field_of bytes 2 2 = c.size-n.ensures ∙ field_at bytes 2 2 (omega arith) c.take-outputs.ensures.0 in
     omega (arith, outputs, field_below bytes 2 2)
 
 pub added_or_not-added-requires : goal.added_or_not-added-requires
 added_or_not-added-requires c =
     let bytes : List ℕ = c.args.s.now in
-    let outputs : c.size-n.result ≡ field_of bytes 2 2 =     c.size-n.ensures ∙ field_at bytes 2 2 (omega arith) c.take-outputs.ensures.0 in
+    let outputs : c.size-n.result ≡ field_of bytes 2 2 = c.size-n.ensures ∙ field_at bytes 2 2 (omega arith) c.take-outputs.ensures.0 in
     (omega arith, omega (arith, outputs, field_below bytes 2 2))
 
 pub returns : goal.returns
 unfolding bounds_of outputs_of df_of spare_bit_of numerator_bounds_of flags_of
 returns c =
     let bytes : List ℕ = c.args.s.now in
-    let outputs : c.size-n.result ≡ field_of bytes 2 2 =     c.size-n.ensures ∙ field_at bytes 2 2 (omega arith) c.take-outputs.ensures.0 in
+    let outputs : c.size-n.result ≡ field_of bytes 2 2 = c.size-n.ensures ∙ field_at bytes 2 2 (omega arith) c.take-outputs.ensures.0 in
     let rows : c.take-rows.result.value ≡ field_of bytes 4 5 = field_at bytes 4 5 (omega arith) c.take-rows.ensures.0 in
     let dg : c.take-dg.result.value ≡ field_of bytes 14 5 = field_at bytes 14 5 (omega arith) c.take-dg.ensures.0 in
     let errors : c.take-errors.result.value ≡ field_of bytes 19 4 = field_at bytes 19 4 (omega arith) c.take-errors.ensures.0 in

@@ -1,4 +1,3 @@
-use Prim.Native.Nat.{◌-◌}
 use native.Mathlib.Omega.{arith}
 use Rattle.field.proofs.Moduli.{modulus_positive}
 use Rattle.poly.specs.Operations.{product_of}

@@ -1,5 +1,4 @@
 use mathlib.Core.Path.{◌≡◌}
-use Prim.Native.Nat.{◌-◌}
 use native.Mathlib.Omega.{arith}
 use Rattle.field.proofs.Moduli.{modulus_positive}
 use Rattle.poly.specs.Operations.{scaled_at, scaled_of}
