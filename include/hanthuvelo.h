@@ -7,7 +7,7 @@
  * known, from such fractions, judges answers that others computed, and gives reciprocals modulo p.
  *
  * After `./install PREFIX`, pkg-config knows the flags as `hanthuvelo`. Without it link
- * target/staticlib/libcapi.a, which `rt staticlib capi` writes. The archive is for x86-64 Linux and needs nothing
+ * target/staticlib/libcapi.a, which `scripts/build archive` writes. The archive is for x86-64 Linux and needs nothing
  * beside the C library. What a function promises is its contract in crates/capi/src/lib.rt, which is proved.
  */
 #ifndef HANTHUVELO_H

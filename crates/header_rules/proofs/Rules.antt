@@ -1,11 +1,11 @@
 -- What the rules of the longer header say of the bounds.
-use Prim.Native.Nat.{ℕ, ◌+◌, ◌*◌, ◌%◌, ◌≤◌, ◌<◌}
+use Prim.Native.Nat.{ℕ, ◌%◌, ◌≤◌, ◌<◌}
 use mathlib.Core.Bool.{Bool, true, false, cond, not, ◌&&◌, ◌||◌}
 use mathlib.Core.List.{List}
 use mathlib.Core.Logic.{◌⊎◌, inl, inr}
-use mathlib.Core.Path.{◌≡◌, refl, sym, ap, ◌∙◌}
+use mathlib.Core.Path.{◌≡◌, refl}
 use native.Mathlib.Omega.{arith}
-use borrow.Author.Tests.{lt-ltb, le-ltb, le-leb, eqb-true, eq-eqb, not-false}
+use borrow.Author.Tests.{le-leb, eqb-true, not-false}
 use lib.Dec.{ltb, leb, eqb}
 use Rattle.lists.proofs.Order.{lt_or_ge}
 use Rattle.lists.proofs.Truth.{clash, or-false}
@@ -17,7 +17,7 @@ use Rattle.format.proofs.Sizes.{largest_above}
 use Rattle.cursor.proofs.Fields.{field_below}
 use Rattle.lists.proofs.FirstBelow.{any_passes}
 use Rattle.header.specs.Header.{outputs_of, df_of, spare_bit_of, flags_of, bounds_of}
-use Rattle.header.proofs.Fields.{fits_fields, bound_at, bound_past}
+use Rattle.header.proofs.Fields.{bound_at, bound_past}
 use Rattle.header_rules.specs.Rules.{bounds_absent, added_header_broken}
 
 -- a short header breaks none

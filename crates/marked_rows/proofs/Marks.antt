@@ -1,6 +1,6 @@
 -- When a row is marked, and with what.
 use mathlib.Core.Bool.{Bool, true, false, not}
-use mathlib.Core.Path.{◌≡◌, refl, sym, ap, ◌∙◌}
+use mathlib.Core.Path.{◌≡◌, refl, ap}
 use Prim.Native.Nat.{ℕ, ◌<◌}
 use native.Mathlib.Omega.{arith}
 use borrow.Author.Tests.{eqb-true, not-true, not-false}
@@ -8,9 +8,8 @@ use lib.Dec.{eqb}
 use Rattle.lists.proofs.Truth.{never_true}
 use Rattle.lists.specs.Search.{is_found}
 use Rattle.lists.proofs.FirstBelow.{any_passes, first_cong}
-use Rattle.marked_rows.specs.declared.Mark.{Mark}
 use Rattle.marked_rows.specs.declared.Mark.TheVariants.{None, Pole, Silent}
-use Rattle.marked_rows.specs.Marks.{all_are, mark_of, is_unmarked, speaking}
+use Rattle.marked_rows.specs.Marks.{all_are, mark_of}
 
 module _ (allowed : Bool) (n : ℕ) (y : ℕ → ℕ) where
   pub pole_if : allowed ≡ true → all_are n y 65535 ≡ true → mark_of allowed n y ≡ Pole

@@ -4,7 +4,7 @@ use Rattle.std.specs.Prelude.{ℕ, ◌/◌, ◌%◌, cond, List, ltb, replicate}
 use Rattle.lists.specs.Tabulated.{tabulate}
 use Rattle.header.specs.Header.{bounds_of}
 use Rattle.rows.specs.declared.Row.{Row}
-use Rattle.rows.specs.Rows.{job_point, job_value, value_or_zero}
+use Rattle.rows.specs.Rows.{job_point, value_or_zero}
 use Rattle.marked_rows.specs.declared.Mark.{Mark}
 use Rattle.marked_rows.specs.declared.Mark.TheVariants.{None, Pole, Silent}
 use Rattle.marked_rows.specs.declared.RowConditions.{RowConditions}

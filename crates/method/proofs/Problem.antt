@@ -1,7 +1,6 @@
 -- The problem of paper 01 over any field: rows, when a row is right or wrong, what an answer is, and when rows are enough.
 -- Values are taken with N coefficients, so that "right" does not depend on the bounds of a problem.
 use mathlib.Core.Path.{◌≡◌, sym, ◌∙◌, ap}
-use mathlib.Core.Logic.{◌≢◌}
 use Prim.Native.Nat.{ℕ, suc, ◌+◌, ◌*◌, ◌-◌, ◌≤◌, ◌<◌}
 use native.Mathlib.Omega.{arith}
 use Rattle.algebra.proofs.Counting.{dec_all, dec_and, failures, failures_zero, failures_holds, failures_fails, failures_not, failures_le}

@@ -9,7 +9,7 @@
 // each byte are two hex digits.
 #![tactic(auto)]
 
-ghost use Rattle.std.specs.Prelude.{◌≤◌, ◌<◌, IfOk};
+ghost use Rattle.std.specs.Prelude.{◌≤◌, ◌<◌, ◌≡◌, length, IfOk, OnErr};
 ghost use Rattle.std.specs.Counts.{IsPrefixLen};
 
 use std::io;
@@ -55,9 +55,10 @@ fn copy_name(rt: &impl Print, input: &mut impl Read) -> io::Result<bool> {
     Ok(false)
 }
 
-// Reads the job's bytes to the end of the line; returns how many there are.
+// Reads the job's bytes to the end of the line; returns how many there are. Where reading fails, the bytes that came before stand in the area.
 fn read_job(input: &mut impl Read, bytes: &mut [u8]) -> io::Result<usize>
-    ensures { IfOk result (λ n. IsPrefixLen n bytes.new) }
+    ensures ok { IfOk result (λ n. IsPrefixLen n bytes.new) }
+    ensures err { OnErr result (length bytes.new ≡ length bytes.old) }
 {
     let mut count = 0;
     while count < bytes.len() {

@@ -1,6 +1,4 @@
 use mathlib.Core.Path.{◌≡◌, ap, ◌∙◌}
-use mathlib.Core.Logic.{⊎_elim}
-use Prim.Native.Nat.{◌-◌}
 use Rattle.candidate.specs.Candidates.{candidate_after}
 use Rattle.candidate.proofs.CandidateLaws.{fitting_start, after_none, after_more, after_stays}
 use native.Mathlib.Omega.{arith}
@@ -21,7 +19,7 @@ pub loop-i-preserved : goal.loop-i-preserved
 loop-i-preserved c =
     let g = c.args in
     elim c.if-c.branch [
-      then-c w ↦ (
+      | then-c w ↦ (
         omega arith,
         after_more g.b g.speaking g.points g.weights g.values c.loop-i.i c.loop-i.invariant.1 w.if-c.true (w.c-is ∙ w.next-c.ensures.0),
         rw w.c-is w.next-c.ensures.1,

@@ -1,6 +1,5 @@
 -- The rows that speak, and those that ask something, are at most all rows: so the bounds are low enough for `solution`.
 use mathlib.Core.Path.{◌≡◌, ap, ◌∙◌}
-use Prim.Native.Nat.{◌-◌}
 use native.Mathlib.Omega.{arith}
 use Rattle.lists.proofs.Counting.{count_most}
 use Rattle.format.specs.Bounds.{prime_of}

@@ -9,7 +9,6 @@ use Rattle.euclid.proofs.Leading.{length_array, bounded_stored}
 use Rattle.euclid.proofs.Euclid.{gcd_stop, gcd_more}
 use borrow.Author.Rules.{rules}
 use native.Mathlib.Omega.{arith}
-use Prim.Native.Nat.{◌<◌, ◌≤◌}
 use Rattle.euclid.proofs.+gcd.Goals as goal
 
 -- the second polynomial is zero

@@ -1,5 +1,4 @@
 use mathlib.Core.Path.{refl, ap}
-use Prim.Native.Nat.{◌-◌}
 use Rattle.montgomery.specs.declared.Factor.{Factor}
 use Rattle.lists.proofs.Filling.{filled_none, filled_more, filled_up_to}
 use Rattle.evaluation.specs.Values.{each_point}

@@ -1,5 +1,5 @@
 -- Horner's rule from the top: v has the values of the coefficients from k on, as a polynomial of their own, at whatever points have the forms xs.
-use Prim.Native.Nat.{◌-◌, ◌≤◌}
+use Prim.Native.Nat.{◌≤◌}
 use lib.ListN.{drop}
 use Rattle.lanes.specs.Lanes.{modulus_at, Residues}
 use Rattle.evaluation.specs.Values.{Evaluated}

@@ -1,4 +1,4 @@
-use Prim.Native.Nat.{ℕ, ◌-◌}
+use Prim.Native.Nat.{ℕ}
 use mathlib.Core.List.{List}
 use mathlib.Core.Path.{◌≡◌, sym, ap, ◌∙◌}
 use native.Mathlib.Omega.{arith}
@@ -15,7 +15,7 @@ pub returns-then-is_out_of_range : goal.returns-then-is_out_of_range
 returns-then-is_out_of_range c =
     let bytes : List ℕ = c.args.job.now in
     -- what the row that was read says of test 5
-    let test : c.is_out_of_range.result ≡ out_of_range bytes c.loop-r.r = (    let h = c.requires.0 in
+    let test : c.is_out_of_range.result ≡ out_of_range bytes c.loop-r.r = (let h = c.requires.0 in
     c.is_out_of_range.ensures ∙ row_test bytes (sym h.marks_are) c.loop-r.r h.modulus_is c.row_at-row.ensures) in
     pass_refused c.loop-r.invariant _ _ (omega arith) (sym test ∙ c.if-is_out_of_range.true)
 
@@ -23,7 +23,7 @@ pub loop-r-preserved : goal.loop-r-preserved
 loop-r-preserved c =
     let bytes : List ℕ = c.args.job.now in
     -- what the row that was read says of test 5
-    let test : c.is_out_of_range.result ≡ out_of_range bytes c.loop-r.r = (    let h = c.requires.0 in
+    let test : c.is_out_of_range.result ≡ out_of_range bytes c.loop-r.r = (let h = c.requires.0 in
     c.is_out_of_range.ensures ∙ row_test bytes (sym h.marks_are) c.loop-r.r h.modulus_is c.row_at-row.ensures) in
     let point = ap (λ (x : Row). x.point) c.row_at-row.ensures ∙ row_point bytes c.loop-r.r in
     pass_next c.loop-r.invariant (omega arith) (sym test ∙ c.if-is_out_of_range.false) point

@@ -30,10 +30,9 @@ divide-a-requires c =
     let stored-psi : Stored (modulus_of c.args.q) c.args.psi.c = bounded_stored c.requires.2 (search rules) in
     let psi-nonzero : length_of c.args.psi.c ≡ 0 → ⊥ = (λ z. omega (arith, c.requires.3)) in
     -- the divisor is not zero
-    let common-length : 0 < c.length-lc.result = (    let nz = divisor_nonzero (modulus_prime c.args.q) stored-phi stored-psi psi-nonzero in
+    let common-length : 0 < c.length-lc.result = (let nz = divisor_nonzero (modulus_prime c.args.q) stored-phi stored-psi psi-nonzero in
     let e = c.length-lc.ensures.0 ∙ ap length_of c.gcd-c.ensures.0 in
-    omega arith) in
-    (
+    omega arith) in (
       omega arith,
       rw c.length-la.ensures.0 (bounded_length c.requires.1),
       c.length-lc.ensures.0,
@@ -48,10 +47,9 @@ divide-h-requires c =
     let stored-psi : Stored (modulus_of c.args.q) c.args.psi.c = bounded_stored c.requires.2 (search rules) in
     let psi-nonzero : length_of c.args.psi.c ≡ 0 → ⊥ = (λ z. omega (arith, c.requires.3)) in
     -- the divisor is not zero
-    let common-length : 0 < c.length-lc.result = (    let nz = divisor_nonzero (modulus_prime c.args.q) stored-phi stored-psi psi-nonzero in
+    let common-length : 0 < c.length-lc.result = (let nz = divisor_nonzero (modulus_prime c.args.q) stored-phi stored-psi psi-nonzero in
     let e = c.length-lc.ensures.0 ∙ ap length_of c.gcd-c.ensures.0 in
-    omega arith) in
-    (
+    omega arith) in (
       omega arith,
       rw c.length-lb.ensures.0 (bounded_length c.requires.2),
       c.length-lc.ensures.0,
@@ -66,7 +64,7 @@ length-lh-requires c =
     let stored-psi : Stored (modulus_of c.args.q) c.args.psi.c = bounded_stored c.requires.2 (search rules) in
     let psi-nonzero : length_of c.args.psi.c ≡ 0 → ⊥ = (λ z. omega (arith, c.requires.3)) in
     -- the divisor is not zero
-    let common-length : 0 < c.length-lc.result = (    let nz = divisor_nonzero (modulus_prime c.args.q) stored-phi stored-psi psi-nonzero in
+    let common-length : 0 < c.length-lc.result = (let nz = divisor_nonzero (modulus_prime c.args.q) stored-phi stored-psi psi-nonzero in
     let e = c.length-lc.ensures.0 ∙ ap length_of c.gcd-c.ensures.0 in
     omega arith) in
     (omega arith, λ k l. c.divide-h.ensures.1.within k (omega (arith, common-length)))
@@ -90,7 +88,7 @@ scaled-requires c =
     let stored-psi : Stored (modulus_of c.args.q) c.args.psi.c = bounded_stored c.requires.2 (search rules) in
     let psi-nonzero : length_of c.args.psi.c ≡ 0 → ⊥ = (λ z. omega (arith, c.requires.3)) in
     -- the divisor is not zero
-    let common-length : 0 < c.length-lc.result = (    let nz = divisor_nonzero (modulus_prime c.args.q) stored-phi stored-psi psi-nonzero in
+    let common-length : 0 < c.length-lc.result = (let nz = divisor_nonzero (modulus_prime c.args.q) stored-phi stored-psi psi-nonzero in
     let e = c.length-lc.ensures.0 ∙ ap length_of c.gcd-c.ensures.0 in
     omega arith) in
     (omega arith, bounded_mono c.divide-a.ensures.1 (omega (arith, common-length)))
@@ -102,7 +100,7 @@ scaled-requires-2 c =
     let stored-psi : Stored (modulus_of c.args.q) c.args.psi.c = bounded_stored c.requires.2 (search rules) in
     let psi-nonzero : length_of c.args.psi.c ≡ 0 → ⊥ = (λ z. omega (arith, c.requires.3)) in
     -- the divisor is not zero
-    let common-length : 0 < c.length-lc.result = (    let nz = divisor_nonzero (modulus_prime c.args.q) stored-phi stored-psi psi-nonzero in
+    let common-length : 0 < c.length-lc.result = (let nz = divisor_nonzero (modulus_prime c.args.q) stored-phi stored-psi psi-nonzero in
     let e = c.length-lc.ensures.0 ∙ ap length_of c.gcd-c.ensures.0 in
     omega arith) in
     (omega arith, bounded_mono c.divide-h.ensures.1 (omega (arith, common-length)))
@@ -141,7 +139,7 @@ overflow_sub-lh c =
     c.divide-h.result.quotient.c ≡ quotient_of (modulus_of g.q) g.psi.c (gcd_of (modulus_of g.q) g.phi.c g.psi.c) = (let g = c.args in
     c.divide-h.ensures.0 ∙ ap (quotient_of (modulus_of g.q) g.psi.c) c.gcd-c.ensures.0) in
     -- .. is not zero
-    let quotient-length : 0 < c.length-lh.result = (    let nz = quotient_nonzero (modulus_prime c.args.q) stored-phi stored-psi psi-nonzero in
+    let quotient-length : 0 < c.length-lh.result = (let nz = quotient_nonzero (modulus_prime c.args.q) stored-phi stored-psi psi-nonzero in
     let e = c.length-lh.ensures.0 ∙ ap length_of quotient_is in
     omega arith) in
     quotient-length

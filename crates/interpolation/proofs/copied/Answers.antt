@@ -1,5 +1,4 @@
 use mathlib.Core.Path.{refl}
-use Prim.Native.Nat.{◌-◌}
 use Rattle.lists.proofs.Filling.{filled_none, filled_more, filled_below}
 use native.Mathlib.Omega.{arith}
 use Rattle.interpolation.proofs.copied.Goals as goal

@@ -1,5 +1,5 @@
 use mathlib.Core.Path.{refl}
-use Prim.Native.Nat.{◌-◌, ◌<◌}
+use Prim.Native.Nat.{◌<◌}
 use native.Mathlib.Nat.{mod-lt}
 use Rattle.lists.proofs.Filling.{filled_none, filled_more, filled_below}
 use native.Mathlib.Omega.{arith}

@@ -1,5 +1,5 @@
 use mathlib.Core.Path.{◌≡◌, refl}
-use Prim.Native.Nat.{◌-◌, ◌≤◌, ◌<◌}
+use Prim.Native.Nat.{◌≤◌, ◌<◌}
 use Rattle.field.specs.Primes.{modulus_of}
 use Rattle.field.proofs.Moduli.{modulus_prime, modulus_small}
 use Rattle.montgomery.proofs.Constants.{factor_at}

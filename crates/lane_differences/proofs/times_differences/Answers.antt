@@ -1,5 +1,4 @@
 use mathlib.Core.Path.{refl}
-use Prim.Native.Nat.{◌-◌}
 use Rattle.lanes.proofs.Changes.{changing_start, changing_next, changing_end, lane_below, splat_below, next_below, less_below, difference_is}
 use native.Mathlib.Omega.{arith}
 use Rattle.lane_differences.proofs.times_differences.Goals as goal

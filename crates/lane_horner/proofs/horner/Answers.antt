@@ -1,4 +1,3 @@
-use Prim.Native.Nat.{◌-◌}
 use Rattle.lanes.proofs.Changes.{changing_start, changing_next, changing_end, lane_below, splat_most, next_below, reduced_below, horner_is}
 use native.Mathlib.Omega.{arith}
 use Rattle.lane_horner.proofs.horner.Goals as goal

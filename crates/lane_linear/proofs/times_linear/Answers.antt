@@ -1,5 +1,4 @@
 use mathlib.Core.Path.{refl}
-use Prim.Native.Nat.{◌-◌}
 use native.Mathlib.Numerals.{add-one}
 use Rattle.lanes.proofs.Changes.{changing_start, changing_same, changing_next, changing_end, lane_below, splat_below, next_below, reduced_below, linear_is}
 use native.Mathlib.Omega.{arith}

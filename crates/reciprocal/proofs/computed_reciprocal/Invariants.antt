@@ -1,5 +1,5 @@
 -- docs/METHOD.md, section 6: acc * a leaves b modulo p, and b falls to 1.
-use Prim.Native.Nat.{◌*◌, ◌-◌, ◌%◌, ◌<◌}
+use Prim.Native.Nat.{◌*◌, ◌%◌, ◌<◌}
 use mathlib.Core.Path.{◌≡◌}
 use Rattle.field.specs.Primes.{modulus_of}
 use Rattle.reciprocal.proofs.computed_reciprocal.Given as goal

@@ -1,6 +1,5 @@
 -- A test before 8 refuses, or the solver works on the job's own rows; each of its two outcomes settles the call (`settle_unsolved`, `settle_solved`).
 use mathlib.Core.Path.{◌≡◌, sym, ◌∙◌, ap, subst}
-use mathlib.Core.Logic.{⊎_elim}
 use mathlib.Core.List.{List}
 use Prim.Native.Nat.{ℕ, ◌≤◌}
 use native.Mathlib.Omega.{arith}

@@ -1,5 +1,4 @@
 use mathlib.Core.Path.{◌≡◌, refl, sym, ap, ◌∙◌}
-use Prim.Native.Nat.{◌-◌}
 use native.Mathlib.Omega.{arith}
 use Rattle.field.specs.Primes.{modulus_of}
 use Rattle.field.proofs.Moduli.{modulus_prime}
@@ -18,14 +17,14 @@ loop-i-init c = (omega arith, refl)
 pub length-lc-requires : goal.length-lc-requires
 length-lc-requires c =
     -- its coefficients are below the modulus
-    let stored : Stored (modulus_of c.args.q) c.loop-i.c.c = (    rw c.loop-i.invariant.1
+    let stored : Stored (modulus_of c.args.q) c.loop-i.c.c = (rw c.loop-i.invariant.1
     (common_stored _ (modulus_prime c.args.q) (coefficients_at c.args.f) c.requires.1 c.loop-i.i (λ i l. c.requires.2 i (omega arith)))) in
     (omega arith, (stored_full stored).within)
 
 pub gcd-c-requires : goal.gcd-c-requires
 gcd-c-requires c =
     -- its coefficients are below the modulus
-    let stored : Stored (modulus_of c.args.q) c.loop-i.c.c = (    rw c.loop-i.invariant.1
+    let stored : Stored (modulus_of c.args.q) c.loop-i.c.c = (rw c.loop-i.invariant.1
     (common_stored _ (modulus_prime c.args.q) (coefficients_at c.args.f) c.requires.1 c.loop-i.i (λ i l. c.requires.2 i (omega arith)))) in
     let e = c.length-lc.ensures.0 in
     (omega arith, stored_full (c.requires.2 c.loop-i.i (omega arith)), e, rw e (stored_bounded stored))

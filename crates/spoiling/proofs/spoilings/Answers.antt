@@ -1,4 +1,4 @@
-use Rattle.std.proofs.Common.{◌≡◌, ◌-◌, lt_of_lt_of_le, arith, lit<}
+use Rattle.std.proofs.Common.{◌≡◌, lt_of_lt_of_le, arith, lit<}
 use borrow.Author.Rules.{scaled_Fits}
 use Rattle.spoiling.proofs.Added.{chosen_row_below}
 use Rattle.spoiling.proofs.Storing.{spoiled_none, spoiled_more}

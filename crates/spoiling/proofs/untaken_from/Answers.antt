@@ -1,4 +1,4 @@
-use Rattle.std.proofs.Common.{◌≡◌, ◌+◌, ◌-◌, ◌%◌, not, sym, ap, ◌∙◌, lt_of_lt_of_le, add-zero, mod-lt, mod-eq_of_lt, arith, lit<, eq-eqb, ne_eqb}
+use Rattle.std.proofs.Common.{◌≡◌, ◌+◌, ◌%◌, not, sym, ap, ◌∙◌, lt_of_lt_of_le, add-zero, mod-lt, mod-eq_of_lt, arith, lit<, eq-eqb, ne_eqb}
 use borrow.Author.Rules.{scaled_Fits}
 use Rattle.lists.specs.declared.Found.{Found}
 use Rattle.lists.proofs.FirstBelow.{search_start, search_next, search_found, search_end}

@@ -2,7 +2,6 @@
 use mathlib.Core.Path.{◌≡◌, sym, ap, ◌∙◌}
 use mathlib.Core.Bool.{true}
 use lib.ListN.{length, length-take}
-use borrow.Author.Tests.{not-true, not-false}
 use Rattle.lists.proofs.Truth.{clash}
 use Rattle.lists.specs.Overwriting.{overwritten}
 use Rattle.text.specs.Drafts.{held}

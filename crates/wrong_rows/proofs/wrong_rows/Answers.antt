@@ -1,5 +1,4 @@
 use mathlib.Core.Path.{◌≡◌, sym}
-use Prim.Native.Nat.{◌-◌}
 use native.Mathlib.Omega.{arith}
 use Rattle.field.specs.Primes.{modulus_of}
 use Rattle.evaluation.specs.Values.{Formed}

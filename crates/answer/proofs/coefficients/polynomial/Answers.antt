@@ -1,4 +1,3 @@
-use Prim.Native.Nat.{◌-◌}
 use native.Mathlib.Omega.{arith}
 use Rattle.lists.proofs.Filling.{filled_none, filled_more, filled_up_to}
 use Rattle.answer.specs.Coefficients.{polynomial_from}

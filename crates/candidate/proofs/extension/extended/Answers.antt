@@ -33,7 +33,7 @@ returns-then-r c =
     let f-sizes : (j : ℕ) → j < 4 → length (numerator_at c.args.c j) ≡ 32 = (λ j l. search (rules, size_of_each)) in
     let one : let g = c.args in Bounded (modulus_of g.b.prime) 1 g.h.c = bounded_mono (bounded_length c.requires.5) (omega arith) in
     let whole-of-one : let g = c.args in
-    with_output g.b g.i g.a.c g.c.g.c g.h.c g.c ≡ extended_of g.b g.i g.a.c g.h.c g.c =     one_extended one c.if-h-eq1.true c.requires.1 f-sizes c.args.i c.args.a.c (omega arith) (omega arith) in
+    with_output g.b g.i g.a.c g.c.g.c g.h.c g.c ≡ extended_of g.b g.i g.a.c g.h.c g.c = one_extended one c.if-h-eq1.true c.requires.1 f-sizes c.args.i c.args.a.c (omega arith) (omega arith) in
     let g = c.args in (
       output_added g.b g.i g.a.c g.h.c g.c.g.c g.c g.c.g c.if-r.true
           (sym (product_one c.requires.1.denominator one c.if-h-eq1.true g-size))
@@ -46,7 +46,7 @@ returns-else-r c =
     let f-sizes : (j : ℕ) → j < 4 → length (numerator_at c.args.c j) ≡ 32 = (λ j l. search (rules, size_of_each)) in
     let one : let g = c.args in Bounded (modulus_of g.b.prime) 1 g.h.c = bounded_mono (bounded_length c.requires.5) (omega arith) in
     let whole-of-one : let g = c.args in
-    with_output g.b g.i g.a.c g.c.g.c g.h.c g.c ≡ extended_of g.b g.i g.a.c g.h.c g.c =     one_extended one c.if-h-eq1.true c.requires.1 f-sizes c.args.i c.args.a.c (omega arith) (omega arith) in
+    with_output g.b g.i g.a.c g.c.g.c g.h.c g.c ≡ extended_of g.b g.i g.a.c g.h.c g.c = one_extended one c.if-h-eq1.true c.requires.1 f-sizes c.args.i c.args.a.c (omega arith) (omega arith) in
     let g = c.args in
     (output_left g.b g.i g.a.c g.h.c g.c.g.c g.c c.if-r.false ∙ whole-of-one, c.requires.1)
 
@@ -67,12 +67,11 @@ raised-r-requires c =
     (c.requires.0, c.requires.1, omega arith, e.0, omega arith, rw e.0 (bounded_length c.requires.5))
 
 pub product-product-requires : goal.product-product-requires
-product-product-requires c =
-    (
-      omega (arith, denominator-low c.requires.0),
-      rw c.length-lg.ensures.0 (bounded_length c.requires.1.denominator),
-      rw c.length-lh.ensures.0 (bounded_length c.requires.5),
-    )
+product-product-requires c = (
+  omega (arith, denominator-low c.requires.0),
+  rw c.length-lg.ensures.0 (bounded_length c.requires.1.denominator),
+  rw c.length-lh.ensures.0 (bounded_length c.requires.5),
+)
 
 pub returns-then-r-2 : goal.returns-then-r-2
 returns-then-r-2 c =

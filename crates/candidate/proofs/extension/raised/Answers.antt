@@ -1,6 +1,5 @@
 use mathlib.Core.Path.{◌≡◌, ap, ◌∙◌}
-use mathlib.Core.Logic.{⊎_elim}
-use Prim.Native.Nat.{ℕ, ◌-◌}
+use Prim.Native.Nat.{ℕ}
 use native.Mathlib.Omega.{arith}
 use Rattle.candidate.specs.Extensions.{raised_below}
 use Rattle.candidate.proofs.ExtensionLaws.{raised_none, raised_more, raised_stays}
@@ -16,7 +15,7 @@ pub loop-j-preserved : goal.loop-j-preserved
 loop-j-preserved c =
     let g = c.args in
     elim c.if-r.branch [
-      then-r w ↦ (omega arith, raised_more g.b g.h.c g.c c.loop-j.j c.loop-j.invariant.1 w.if-r.true (w.r-is ∙ w.raised_at-r.ensures.0), rw w.r-is w.raised_at-r.ensures.1)
+      | then-r w ↦ (omega arith, raised_more g.b g.h.c g.c c.loop-j.j c.loop-j.invariant.1 w.if-r.true (w.r-is ∙ w.raised_at-r.ensures.0), rw w.r-is w.raised_at-r.ensures.1)
       | else-r w ↦ (omega arith, w.r-is ∙ raised_stays g.b g.h.c g.c c.loop-j.j c.loop-j.invariant.1 w.if-r.false, rw w.r-is c.loop-j.invariant.2)
     ]
 

@@ -1,6 +1,5 @@
 -- The tests are those of `raised_at`; past them the product keeps to the bound (`bounded_raised`), also where the numerator is zero.
 use mathlib.Core.Path.{◌∙◌}
-use mathlib.Core.Logic.{⊎_elim}
 use Prim.Native.Nat.{◌+◌, ◌≤◌, ◌<◌}
 use native.Mathlib.Omega.{arith}
 use Rattle.field.proofs.Moduli.{modulus_positive}

@@ -1,9 +1,7 @@
 -- By what tests 1 and 11 say: a refusal is theirs (`two_refused`), and past them (`two_passed`) the two comparisons are tests 3 and 4.
 use borrow.Author.Tests.{lt-ltb, le-ltb, eq-eqb, ne_eqb}
 use mathlib.Core.Bool.{Bool, true, false, not}
-use mathlib.Core.Logic.{⊎_elim}
 use mathlib.Core.Path.{◌≡◌, sym, ap, ◌∙◌}
-use native.Mathlib.Omega.{arith}
 use lib.Dec.{ltb, eqb}
 use Rattle.format.specs.declared.Outcome.{Outcome}
 use Rattle.header.specs.Header.{job_length_of, rows_needed_of}
@@ -24,7 +22,7 @@ returns-then-bytes-job_length c =
     let short : Bool = ltb c.args.bytes c.args.header.length in
     let broken : Bool = breaks_rule c.args.header in
     -- what is left to test where 1 and 11 do not apply
-    let passed : (later : Outcome) → later ≡ two_tests short broken later = (λ later.     two_passed short broken later (sym c.check_rules-checked.ensures ∙ c.in-Accepted.is)) in
+    let passed : (later : Outcome) → later ≡ two_tests short broken later = (λ later. two_passed short broken later (sym c.check_rules-checked.ensures ∙ c.in-Accepted.is)) in
     let a = c.args in
     let differs : not (eqb a.bytes (job_length_of a.header)) ≡ true = ap not (ne_eqb _ _ (λ e. c.if-bytes-job_length.true (e ∙ sym c.job_length.ensures))) in
     rw differs (passed _)
@@ -34,7 +32,7 @@ returns-then-bounds-rows_needed c =
     let short : Bool = ltb c.args.bytes c.args.header.length in
     let broken : Bool = breaks_rule c.args.header in
     -- what is left to test where 1 and 11 do not apply
-    let passed : (later : Outcome) → later ≡ two_tests short broken later = (λ later.     two_passed short broken later (sym c.check_rules-checked.ensures ∙ c.in-Accepted.is)) in
+    let passed : (later : Outcome) → later ≡ two_tests short broken later = (λ later. two_passed short broken later (sym c.check_rules-checked.ensures ∙ c.in-Accepted.is)) in
     let same_length : let a = c.args in not (eqb a.bytes (job_length_of a.header)) ≡ false = ap not (eq-eqb _ _ (c.if-bytes-job_length.false ∙ c.job_length.ensures)) in
     let h = c.args.header in
     let few : ltb h.bounds.rows (rows_needed_of h) ≡ true = lt-ltb _ _ (rw c.rows_needed.ensures at c.if-bounds-rows_needed.true) in
@@ -45,7 +43,7 @@ returns c =
     let short : Bool = ltb c.args.bytes c.args.header.length in
     let broken : Bool = breaks_rule c.args.header in
     -- what is left to test where 1 and 11 do not apply
-    let passed : (later : Outcome) → later ≡ two_tests short broken later = (λ later.     two_passed short broken later (sym c.check_rules-checked.ensures ∙ c.in-Accepted.is)) in
+    let passed : (later : Outcome) → later ≡ two_tests short broken later = (λ later. two_passed short broken later (sym c.check_rules-checked.ensures ∙ c.in-Accepted.is)) in
     let same_length : let a = c.args in not (eqb a.bytes (job_length_of a.header)) ≡ false = ap not (eq-eqb _ _ (c.if-bytes-job_length.false ∙ c.job_length.ensures)) in
     let h = c.args.header in
     let enough : ltb h.bounds.rows (rows_needed_of h) ≡ false = le-ltb _ _ (rw c.rows_needed.ensures at c.if-bounds-rows_needed.false) in

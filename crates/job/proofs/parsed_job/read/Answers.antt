@@ -1,9 +1,8 @@
 -- By the outcome of the header's tests: a refusal is handed on, and past them the body is read (`outcome_by_header`).
 use Prim.Native.Nat.{ℕ}
 use mathlib.Core.List.{List}
-use mathlib.Core.Logic.{◌⊎◌, inl, inr, ⊎_elim}
+use mathlib.Core.Logic.{◌⊎◌, inl, inr}
 use mathlib.Core.Path.{◌≡◌, sym, ap, ◌∙◌}
-use native.Mathlib.Omega.{arith}
 use lib.ListN.{length}
 use Rattle.format.specs.declared.Reason.{Reason}
 use Rattle.format.specs.declared.Outcome.{Outcome}

@@ -1,5 +1,5 @@
 -- What is put already and the rows of the bits that are left make the rows of the whole word; taking away the first set bit takes away its row (`next-rows`).
-use Prim.Native.Nat.{◌-◌, ◌^◌, ◌<◌}
+use Prim.Native.Nat.{◌^◌, ◌<◌}
 use mathlib.Core.Path.{◌≡◌}
 use mathlib.Core.List.{[]}
 use Rattle.row_mask.specs.Word.{is_set}
