@@ -102,6 +102,7 @@ const LAYERS: &str = "\
 
 # programs
 print: text field io
+archive staticlib: text
 text_examples: text
 
 # texts
@@ -124,6 +125,7 @@ fn the_groups_are_read() {
         .collect();
     let expected = [
         ("print", Some(0)),
+        ("archive", Some(0)),
         ("text_examples", Some(0)),
         ("text", Some(1)),
         ("words", Some(1)),
@@ -131,12 +133,13 @@ fn the_groups_are_read() {
     ];
     assert_eq!(found, expected);
     assert_eq!(crates.list[0].used, ["text", "field", "io"]);
-    assert_eq!(crates.list[3].used, ["text", "field"]);
+    assert_eq!(crates.list[1].used, ["text"]);
+    assert_eq!(crates.list[4].used, ["text", "field"]);
     assert_eq!(crates.layer_complaints(), Vec::<String>::new());
 }
 
 /// Each line of the list in other words, with what is said of it then.
-const BREACHES: [(&str, &str, &[&str]); 8] = [
+const BREACHES: [(&str, &str, &[&str]); 10] = [
     (
         "field:",
         "field: words",
@@ -157,6 +160,8 @@ const BREACHES: [(&str, &str, &[&str]); 8] = [
     ("# numbers", "# texts", &["`texts` stands there twice"]),
     ("text_examples: text", "print:", &["`print` stands there twice"]),
     ("field:", "field\nother:", &["`field` is no crate's line", "`other` stands in no group"]),
+    ("archive staticlib:", "print staticlib:", &["`print` stands there twice"]),
+    ("archive staticlib: text", "archive program: text", &["`archive program: text` is no crate's line"]),
 ];
 
 #[test]

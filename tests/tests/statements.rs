@@ -278,7 +278,10 @@ fn an_attribute_for_the_checker_is_left_out() {
     let text = "#[derive(Clone, Copy)]\n#[repr(C)]\npub struct S {\n    pub a: u8,\n}\n\n#[unsafe(no_mangle)]\n#[tactic(\n    auto,\n    using(Lemma.a)\n)]\npub fn f()\n{\n}\n";
     let items = source::items(text);
     assert_eq!(items.len(), 2);
-    assert_eq!(items[0].text, "#[repr(C)]\npub struct S {\n    pub a: u8,\n}");
+    assert_eq!(
+        items[0].text,
+        "#[repr(C)]\npub struct S {\n    pub a: u8,\n}"
+    );
     assert_eq!(items[1].text, "#[unsafe(no_mangle)]\npub fn f()");
 }
 
@@ -290,7 +293,9 @@ fn the_facts_of_a_contract_are_read() {
     let (head, contract) = source::parts(item);
     assert_eq!(head, "pub fn f(x: u8) -> u8");
     assert_eq!(
-        source::facts(&contract).split_whitespace().collect::<Vec<_>>(),
+        source::facts(&contract)
+            .split_whitespace()
+            .collect::<Vec<_>>(),
         "{ x < 9 } { result ≡ x } { Same x result }"
             .split(' ')
             .collect::<Vec<_>>()

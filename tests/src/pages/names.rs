@@ -24,8 +24,8 @@ const MADE: [&str; 11] = [
 ];
 
 /// The folders at the repository's root.
-const FOLDERS: [&str; 8] = [
-    ".ci", "crates", "docs", "examples", "include", "rust", "scripts", "tests",
+const FOLDERS: [&str; 9] = [
+    ".ci", "crates", "docs", "examples", "include", "rust", "scripts", "tests", "tools",
 ];
 
 /// Whether a word can be the name of a file or a folder.
