@@ -4,8 +4,9 @@ use super::Page;
 use crate::statements::citations;
 
 /// The endings by which a word without a folder is the name of a file.
-pub const ENDINGS: [&str; 14] = [
+pub const ENDINGS: [&str; 17] = [
     "md", "rt", "antt", "rs", "c", "h", "a", "job", "out", "trial", "edit", "toml", "txt", "pc",
+    "py", "tsv", "patch",
 ];
 
 /// What the tools write or install, and pages name.
