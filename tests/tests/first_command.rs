@@ -3,11 +3,10 @@
 #![cfg(feature = "program")]
 
 use outside_checks::crates::Crates;
-use outside_checks::empty_folder;
+use outside_checks::{empty_folder, put_script, Outside};
 use std::collections::BTreeSet;
 use std::fs;
 use std::io::{BufRead, BufReader, Read};
-use std::os::unix::fs::PermissionsExt;
 use std::path::{Path, PathBuf};
 use std::process::{Command, Output, Stdio};
 
@@ -57,12 +56,6 @@ fn with_stub(name: &str, lines: &str) -> PathBuf {
     let folder = empty_folder(env!("CARGO_TARGET_TMPDIR"), name);
     put_script(&folder, "rt", lines);
     folder
-}
-
-fn put_script(folder: &Path, name: &str, lines: &str) {
-    let path = folder.join(name);
-    fs::write(&path, format!("#!/bin/sh\n{lines}")).expect("a script");
-    fs::set_permissions(&path, fs::Permissions::from_mode(0o755)).expect("a script that runs");
 }
 
 /// The crates of the repository that one of them needs, each behind those that it needs, itself last.
@@ -201,29 +194,17 @@ fn a_failed_proof_shows_what_the_check_said() {
     assert_eq!(proved(&said), named);
 }
 
-/// A copy of the repository in which nothing is built. It lies outside the repository, in which rt allows one `crates.txt` alone,
-/// and goes when the test ends.
-struct Bare(PathBuf);
-
-impl Drop for Bare {
-    fn drop(&mut self) {
-        // What cannot be removed stays among the temporary files.
-        let _ = fs::remove_dir_all(&self.0);
-    }
-}
-
-/// Such a copy, and programs that only seem to build something.
-fn bare_copy(name: &str) -> (Bare, PathBuf) {
-    let place = std::env::temp_dir().join(format!("hanthuvelo-{}", std::process::id()));
-    let place = place.to_str().expect("a plain name");
-    let folder = empty_folder(place, name);
+/// A copy of the repository in which nothing is built, and programs that only seem to build something.
+fn bare_copy(name: &str) -> (Outside, PathBuf) {
+    let copy = Outside::new(name);
+    let folder = &copy.0;
     let words = ["crates.txt", "hanthuvelo", "install", "examples", "scripts"];
     for built in ["crates/print", "crates/capi"] {
         fs::create_dir_all(folder.join(built)).expect("a folder");
     }
     let copied = Command::new("cp")
         .args(["-r", "-t"])
-        .arg(&folder)
+        .arg(folder)
         .args(words)
         .current_dir(ROOT)
         .status();
@@ -239,7 +220,7 @@ fn bare_copy(name: &str) -> (Bare, PathBuf) {
     let cargo = make("build/release/pack-job", "echo packed")
         + &make("build/release/hanthuvelo", "echo done");
     put_script(&tools, "cargo", &cargo);
-    (Bare(folder), tools)
+    (copy, tools)
 }
 
 fn run_in(folder: &Path, tools: &Path, words: &[&str]) -> Output {
