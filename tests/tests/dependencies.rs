@@ -4,9 +4,6 @@ use outside_checks::crates::{crates_text, Crates, MOST_CRATES};
 use outside_checks::statements::repository;
 use std::fs;
 
-/// What comes with the toolchain, and is not listed.
-const KIT: [&str; 2] = ["io", "libc"];
-
 /// What the recovery has of its own: the interpolation and the candidates that it leads to, and the mathematics of both.
 const RECOVERY: [&str; 11] = [
     "pairs",
@@ -66,13 +63,12 @@ fn the_form_check_rests_on_the_reader_alone() {
     }
 }
 
-/// So that the tests above look at all there is.
+/// So that the tests above look at all there is. Of the toolchain's libraries only std is used, which no list names.
 #[test]
 fn every_crate_that_is_used_is_listed() {
     let crates = Crates::of_repository();
     for used in crates.list.iter().flat_map(|each| &each.used) {
-        let is_known = crates.find(used).is_some() || KIT.contains(&used.as_str());
-        assert!(is_known, "{used}");
+        assert!(crates.find(used).is_some(), "{used}");
     }
     let folders = fs::read_dir(repository().join("crates")).expect("crates");
     assert_eq!(folders.count(), crates.list.len());
