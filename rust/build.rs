@@ -13,7 +13,7 @@ fn main() {
     let archive = folder.join("libcapi.a");
     println!("cargo::rerun-if-changed={}", archive.display());
     if !archive.is_file() {
-        let build = "run `rt staticlib capi` in the repository's root";
+        let build = "run `scripts/build archive` in the repository's root";
         let leave = "or leave the library out with `--no-default-features`";
         println!("cargo::error=target/staticlib/libcapi.a is missing: {build}, {leave}");
         return;

@@ -133,10 +133,11 @@ fn names_a_group(lines: &[&str], place: usize) -> bool {
     is_behind_empty && next.is_some_and(|next| crate_of(next, None).is_some())
 }
 
-/// The crate of a line `name: used ones`, if it is one.
+/// The crate of a line `name: used ones`, or `name staticlib: used ones` for a static library, if it is one.
 fn crate_of(line: &str, group: Option<usize>) -> Option<Crate> {
     let line = line.split('#').next().unwrap_or("");
     let (name, used) = line.split_once(':')?;
+    let name = name.strip_suffix(" staticlib").unwrap_or(name);
     let used: Vec<String> = used.split_whitespace().map(str::to_string).collect();
     let is_crate = is_name(name) && used.iter().all(|each| is_name(each));
     is_crate.then(|| Crate {

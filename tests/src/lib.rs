@@ -22,6 +22,7 @@ use layout::Job;
 use std::fmt::{Debug, Formatter};
 use std::fs;
 use std::io::Write;
+use std::os::unix::fs::PermissionsExt;
 use std::path::{Path, PathBuf};
 use std::str::FromStr;
 
@@ -204,6 +205,31 @@ pub fn empty_folder(within: &str, name: &str) -> PathBuf {
     let _ = fs::remove_dir_all(&folder);
     fs::create_dir_all(&folder).expect("a folder");
     folder
+}
+
+/// An empty folder outside the repository, in which rt allows one `crates.txt` alone. It goes with this value.
+pub struct Outside(pub PathBuf);
+
+impl Outside {
+    pub fn new(name: &str) -> Outside {
+        let place = std::env::temp_dir().join(format!("hanthuvelo-{}", std::process::id()));
+        Outside(empty_folder(place.to_str().expect("a plain name"), name))
+    }
+}
+
+impl Drop for Outside {
+    fn drop(&mut self) {
+        // What cannot be removed stays among the temporary files. The folder of all of them goes with the last one.
+        let _ = fs::remove_dir_all(&self.0);
+        let _ = self.0.parent().map(fs::remove_dir);
+    }
+}
+
+/// Puts a script of shell, by these lines, into a folder.
+pub fn put_script(folder: &Path, name: &str, lines: &str) {
+    let path = folder.join(name);
+    fs::write(&path, format!("#!/bin/sh\n{lines}")).expect("a script");
+    fs::set_permissions(&path, fs::Permissions::from_mode(0o755)).expect("a script that runs");
 }
 
 /// Writes past a test's capture, so that every run shows its counts.

@@ -38,7 +38,7 @@ pub fn run_redirected(redirection: &str, input: &[u8]) -> Result<Output, String>
 
 fn start(command: &mut Command) -> Result<Child, String> {
     if !path().is_file() {
-        let command = "build it in the repository's root with `rt check print`";
+        let command = "build it in the repository's root with `scripts/build program`";
         return Err(format!(
             "target/bin/print is missing: {command}, or leave it out by `--no-default-features`"
         ));

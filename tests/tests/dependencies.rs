@@ -4,9 +4,6 @@ use outside_checks::crates::{crates_text, Crates, MOST_CRATES};
 use outside_checks::statements::repository;
 use std::fs;
 
-/// What comes with the toolchain, and is not listed.
-const KIT: [&str; 2] = ["io", "libc"];
-
 /// What the recovery has of its own: the interpolation and the candidates that it leads to, and the mathematics of both.
 const RECOVERY: [&str; 11] = [
     "pairs",
@@ -66,13 +63,12 @@ fn the_form_check_rests_on_the_reader_alone() {
     }
 }
 
-/// So that the tests above look at all there is.
+/// So that the tests above look at all there is. Of the toolchain's libraries only std is used, which no list names.
 #[test]
 fn every_crate_that_is_used_is_listed() {
     let crates = Crates::of_repository();
     for used in crates.list.iter().flat_map(|each| &each.used) {
-        let is_known = crates.find(used).is_some() || KIT.contains(&used.as_str());
-        assert!(is_known, "{used}");
+        assert!(crates.find(used).is_some(), "{used}");
     }
     let folders = fs::read_dir(repository().join("crates")).expect("crates");
     assert_eq!(folders.count(), crates.list.len());
@@ -102,6 +98,7 @@ const LAYERS: &str = "\
 
 # programs
 print: text field io
+archive staticlib: text
 text_examples: text
 
 # texts
@@ -124,6 +121,7 @@ fn the_groups_are_read() {
         .collect();
     let expected = [
         ("print", Some(0)),
+        ("archive", Some(0)),
         ("text_examples", Some(0)),
         ("text", Some(1)),
         ("words", Some(1)),
@@ -131,12 +129,13 @@ fn the_groups_are_read() {
     ];
     assert_eq!(found, expected);
     assert_eq!(crates.list[0].used, ["text", "field", "io"]);
-    assert_eq!(crates.list[3].used, ["text", "field"]);
+    assert_eq!(crates.list[1].used, ["text"]);
+    assert_eq!(crates.list[4].used, ["text", "field"]);
     assert_eq!(crates.layer_complaints(), Vec::<String>::new());
 }
 
 /// Each line of the list in other words, with what is said of it then.
-const BREACHES: [(&str, &str, &[&str]); 8] = [
+const BREACHES: [(&str, &str, &[&str]); 10] = [
     (
         "field:",
         "field: words",
@@ -157,6 +156,8 @@ const BREACHES: [(&str, &str, &[&str]); 8] = [
     ("# numbers", "# texts", &["`texts` stands there twice"]),
     ("text_examples: text", "print:", &["`print` stands there twice"]),
     ("field:", "field\nother:", &["`field` is no crate's line", "`other` stands in no group"]),
+    ("archive staticlib:", "print staticlib:", &["`print` stands there twice"]),
+    ("archive staticlib: text", "archive program: text", &["`archive program: text` is no crate's line"]),
 ];
 
 #[test]

@@ -3,10 +3,10 @@
 #![cfg(feature = "program")]
 
 use outside_checks::crates::Crates;
-use outside_checks::empty_folder;
+use outside_checks::{empty_folder, put_script, Outside};
+use std::collections::BTreeSet;
 use std::fs;
 use std::io::{BufRead, BufReader, Read};
-use std::os::unix::fs::PermissionsExt;
 use std::path::{Path, PathBuf};
 use std::process::{Command, Output, Stdio};
 
@@ -46,6 +46,11 @@ fn is_numbered(line: &str) -> bool {
     line.starts_with(|letter: char| letter.is_ascii_digit())
 }
 
+/// The lines of shell by which a stub says that a crate is proved, as `rt` does.
+fn says_proved(name: &str) -> String {
+    format!("echo 'crate {name}: modules loaded=9 checked=2'\necho 'logic=proved functions=3'\n")
+}
+
 /// A folder of this test's own with an `rt` that does what the lines of shell say.
 fn with_stub(name: &str, lines: &str) -> PathBuf {
     let folder = empty_folder(env!("CARGO_TARGET_TMPDIR"), name);
@@ -53,18 +58,27 @@ fn with_stub(name: &str, lines: &str) -> PathBuf {
     folder
 }
 
-fn put_script(folder: &Path, name: &str, lines: &str) {
-    let path = folder.join(name);
-    fs::write(&path, format!("#!/bin/sh\n{lines}")).expect("a script");
-    fs::set_permissions(&path, fs::Permissions::from_mode(0o755)).expect("a script that runs");
+/// The crates of the repository that one of them needs, each behind those that it needs, itself last.
+fn needed(top: &str) -> Vec<String> {
+    fn visit(crates: &Crates, name: &str, found: &mut Vec<String>) {
+        let Some(each) = crates.find(name) else {
+            return;
+        };
+        if found.iter().all(|other| other != name) {
+            each.used.iter().for_each(|used| visit(crates, used, found));
+            found.push(name.to_string());
+        }
+    }
+    let mut found = Vec::new();
+    visit(&Crates::of_repository(), top, &mut found);
+    found
 }
 
-/// The crates of the repository that one of them needs, itself among them.
-fn needed(top: &str) -> Vec<String> {
-    let crates = Crates::of_repository();
-    let below = crates.below(top).into_iter();
-    let listed = below.filter(|name| crates.find(name).is_some());
-    std::iter::once(top.to_string()).chain(listed).collect()
+/// The number of a crate among those that the printing program needs, and how many these are.
+fn number_for_print(name: &str) -> String {
+    let names = needed("print");
+    let place = names.iter().position(|each| each == name);
+    format!("{} of {}", place.expect("a crate") + 1, names.len())
 }
 
 #[test]
@@ -83,7 +97,7 @@ fn a_job_prints_the_programs_lines_alone() {
 
 #[test]
 fn a_file_that_is_no_job_gives_its_error_alone() {
-    let folder = with_stub("no-job", "echo 'rt: field proved (6 s)'\n");
+    let folder = with_stub("no-job", &says_proved("field"));
     let bad = folder.join("bad.job");
     fs::write(&bad, "prime 7 outputs 1 df 0 dg 0 errors 1\n0 5\n").expect("a file");
     let bad = bad.to_string_lossy();
@@ -109,15 +123,20 @@ fn a_file_that_is_no_job_gives_its_error_alone() {
 #[test]
 fn each_crate_is_named_with_its_number() {
     let names = needed("print");
-    assert!(names.len() > 10 && !names.contains(&"libc".to_string()));
+    assert!(names.len() > 10);
+    let (last, others) = names.split_last().expect("the program");
+    assert_eq!(last, "print");
+    let others: BTreeSet<String> = others.iter().cloned().collect();
+    assert_eq!(others, Crates::of_repository().below("print"));
     let mut lines = String::new();
     let mut expected = String::new();
-    for (index, name) in names.iter().rev().enumerate() {
+    for (index, name) in names.iter().enumerate() {
         let (number, all) = (index + 1, names.len());
+        // Of a crate that is unchanged rt says nothing, or with what it begins.
         if index % 3 == 1 {
-            lines += &format!("echo 'rt: {name} proved (unchanged since it was last proved)'\n");
+            lines += &format!("echo 'rt: {name}: begins with what a check kept in elsewhere'\n");
         } else {
-            lines += &format!("echo 'fn {name}::f: proved'\necho 'rt: {name} proved (12 s)'\n");
+            lines += &format!("echo 'fn {name}::f: proved'\n{}", says_proved(name));
             expected += &format!("{number} of {all}  {name}\n");
         }
     }
@@ -134,7 +153,8 @@ fn a_crate_is_named_before_the_next_is_proved() {
     let wait = "cd \"$(dirname \"$0\")\"\n\
         for i in $(seq 200); do [ -e go ] && break; sleep 0.05; done\n\
         [ -e go ] || touch late\n";
-    let lines = format!("echo 'rt: field proved (6 s)'\n{wait}echo 'rt: poly proved (6 s)'\n");
+    let (field, poly) = (says_proved("field"), says_proved("poly"));
+    let lines = format!("{field}{wait}{poly}");
     let folder = with_stub("before", &lines);
     let mut child = command(&[], Some(&folder))
         .stdout(Stdio::piped())
@@ -148,11 +168,10 @@ fn a_crate_is_named_before_the_next_is_proved() {
         assert_ne!(errors.read_line(&mut line).expect("a line"), 0);
     }
     fs::write(folder.join("go"), "").expect("a file");
-    let all = needed("print").len();
-    assert_eq!(line, format!("1 of {all}  field\n"));
+    assert_eq!(line, format!("{}  field\n", number_for_print("field")));
     let mut rest = String::new();
     errors.read_to_string(&mut rest).expect("the rest");
-    assert_eq!(rest, format!("2 of {all}  poly\n"));
+    assert_eq!(rest, format!("{}  poly\n", number_for_print("poly")));
     assert!(!folder.join("late").exists(), "the line came too late");
     let output = child.wait_with_output().expect("an end");
     assert!(output.status.success());
@@ -161,21 +180,30 @@ fn a_crate_is_named_before_the_next_is_proved() {
 
 #[test]
 fn a_failed_proof_shows_what_the_check_said() {
-    let lines = "echo 'rt: field proved (6 s)'\necho 'rt: poly NOT PROVED (exit 1, 2 s)'\nexit 1\n";
-    let folder = with_stub("failed", lines);
+    let last = "rt: the library poly did not build, so nothing above it was checked";
+    let failed =
+        "echo 'crate poly: modules loaded=9 checked=2'\necho 'logic=not-proved functions=3'\n";
+    let lines = format!("{}{failed}echo '{last}'\nexit 1\n", says_proved("field"));
+    let folder = with_stub("failed", &lines);
     let output = output(&[], Some(&folder));
     let said = text(&output.stderr);
     assert!(!output.status.success() && output.stdout.is_empty());
-    assert!(said.contains("rt: poly NOT PROVED (exit 1, 2 s)"), "{said}");
+    assert!(said.contains(last), "{said}");
+    let named = format!("{}  field\n", number_for_print("field"));
+    assert_eq!(proved(&said), named);
 }
 
 /// A copy of the repository in which nothing is built, and programs that only seem to build something.
-fn bare_copy(name: &str) -> (PathBuf, PathBuf) {
-    let folder = empty_folder(env!("CARGO_TARGET_TMPDIR"), name);
+fn bare_copy(name: &str) -> (Outside, PathBuf) {
+    let copy = Outside::new(name);
+    let folder = &copy.0;
     let words = ["crates.txt", "hanthuvelo", "install", "examples", "scripts"];
+    for built in ["crates/print", "crates/capi"] {
+        fs::create_dir_all(folder.join(built)).expect("a folder");
+    }
     let copied = Command::new("cp")
         .args(["-r", "-t"])
-        .arg(&folder)
+        .arg(folder)
         .args(words)
         .current_dir(ROOT)
         .status();
@@ -184,13 +212,14 @@ fn bare_copy(name: &str) -> (PathBuf, PathBuf) {
     let make = |file: &str, line: &str| {
         format!("mkdir -p \"$(dirname {file})\"; printf '#!/bin/sh\\n{line}\\n' > {file}; chmod +x {file}\n")
     };
-    let archive = "mkdir -p target/staticlib; touch target/staticlib/libcapi.a\n";
-    let rt = make("target/bin/print", "echo printed") + archive + "echo 'rt: field proved (6 s)'\n";
-    put_script(&tools, "rt", &rt);
+    let archive = "mkdir -p out; touch out/libcapi.a";
+    let program = make("out/print", "echo printed");
+    let rt = format!("case $1 in\nlib) {archive} ;;\nrun) {program} ;;\nesac\n");
+    put_script(&tools, "rt", &(rt + &says_proved("field")));
     let cargo = make("build/release/pack-job", "echo packed")
         + &make("build/release/hanthuvelo", "echo done");
     put_script(&tools, "cargo", &cargo);
-    (folder, tools)
+    (copy, tools)
 }
 
 fn run_in(folder: &Path, tools: &Path, words: &[&str]) -> Output {
@@ -204,18 +233,22 @@ fn run_in(folder: &Path, tools: &Path, words: &[&str]) -> Output {
 
 #[test]
 fn what_is_begun_is_said_where_nothing_is_built() {
-    let (print, capi) = (needed("print").len(), needed("capi").len());
-    let print = format!("proving print and what it needs, {print} crates\n1 of {print}  field\n");
-    let capi = format!("proving capi and what it needs, {capi} crates\n1 of {capi}  field\n");
+    let proving = |top: &str| {
+        let names = needed(top);
+        let field = names.iter().position(|name| name == "field");
+        let (number, all) = (field.expect("the crate") + 1, names.len());
+        format!("proving {top} and what it needs, {all} crates\n{number} of {all}  field\n")
+    };
+    let (print, capi) = (proving("print"), proving("capi"));
     let (folder, tools) = bare_copy("begun-run");
-    let output = run_in(&folder, &tools, &["examples/run"]);
+    let output = run_in(&folder.0, &tools, &["examples/run"]);
     assert_eq!(
         text(&output.stderr),
         format!("building the reader of jobs\n{print}")
     );
     assert_eq!(text(&output.stdout), "printed\n");
     let (folder, tools) = bare_copy("begun-command");
-    let output = run_in(&folder, &tools, &["hanthuvelo", "recover"]);
+    let output = run_in(&folder.0, &tools, &["hanthuvelo", "recover"]);
     assert_eq!(
         text(&output.stderr),
         format!("{capi}building the command\n")
@@ -240,7 +273,8 @@ fn without_toolchain(name: &str) -> PathBuf {
 
 #[test]
 fn a_missing_toolchain_is_said_in_a_sentence() {
-    let (folder, _) = bare_copy("missing");
+    let (bare, _) = bare_copy("missing");
+    let folder = &bare.0;
     let tools = without_toolchain("missing-path");
     let place = folder.join("place");
     let place = place.to_str().expect("a plain name");
@@ -255,7 +289,7 @@ fn a_missing_toolchain_is_said_in_a_sentence() {
             .arg(folder.join(words[0]))
             .args(&words[1..])
             .env("PATH", &tools)
-            .env("CARGO_HOME", &folder)
+            .env("CARGO_HOME", folder)
             .output()
             .expect("bash");
         assert_eq!(text(&output.stderr), expected, "{words:?}");

@@ -101,7 +101,7 @@ fn the_demands_do_not_rest_on_the_method() {
     assert_eq!(others.len(), 18);
     assert_eq!(method_below(&others), Vec::<String>::new());
     for root in reciprocals {
-        let place = "crates/reciprocal/specs/Reciprocals.antt: `reciprocalOf`".to_string();
+        let place = "crates/reciprocal/specs/Reciprocals.antt: `reciprocal_of`".to_string();
         assert!(method_below(&[root]).contains(&place), "{}", root.1);
     }
 }
@@ -152,11 +152,11 @@ fn a_remark_in_a_block_is_no_change() {
 #[test]
 fn a_definition_that_the_file_lacks_is_reported() {
     let (file, _, text) = first_definition();
-    let more = format!("abbrev pub not-there : ℕ\nnot-there = 0\n\n{text}");
+    let more = format!("abbrev pub not_there : ℕ\nnot_there = 0\n\n{text}");
     let text = changed(&text, &more);
-    let complaint = format!("{file}: `not-there` is on the page and not in the file");
+    let complaint = format!("{file}: `not_there` is on the page and not in the file");
     assert_eq!(found(&text), [complaint]);
-    let extra = format!("{file}: `not-there`");
+    let extra = format!("{file}: `not_there`");
     assert!(beyond_need(&repository(), &text).contains(&extra));
 }
 
@@ -172,7 +172,9 @@ fn a_definition_that_stands_twice_is_reported() {
 
 #[test]
 fn a_removed_entry_of_the_key_is_reported() {
-    for name in ["getD", "≡", "⊥", "λ", "cond", "now", "usize"] {
+    for name in [
+        "get_or", "≡", "⊥", "λ", "cond", "now", "old", "new", "result", "usize",
+    ] {
         let is_entry = |line: &str| {
             let key = Page::parse(&format!("# notation\n{line}")).key;
             line.starts_with('|') && key.contains(name)
@@ -230,7 +232,7 @@ fn refreshing_restores_a_changed_definition() {
 #[test]
 fn the_names_that_a_definition_uses() {
     let text =
-        "abbrev pub f : (p : ℕ) → List ℕ → ℕ\nf p (c ∷ cs) = sum (λ i. c .size + g i) -- not this";
+        "abbrev pub f : (p : ℕ) → List ℕ → ℕ\nf p (c ∷ cs) = sum (λ i. c.size + (g i).rows) -- not this";
     let item = &antt::items(text)[0];
     let bound = antt::bound_names(item);
     let words: Vec<String> = item
@@ -247,25 +249,55 @@ fn the_names_that_a_definition_uses() {
             "abbrev", "pub", ":", ":", "ℕ", "→", "List", "ℕ", "→", "ℕ", "=", "sum", "λ", "+", "g"
         ]
     );
-    let imports = antt::imports("use A.B.{\n  a,\n  _+_,\n}\nuse C.{c}\n\nuse D\n", "use ");
+    let imports = antt::imports("use A.B.{\n  a,\n  ◌+◌,\n}\nuse C.{c}\n\nuse D\n", "use ");
     let imports: Vec<(&str, &str)> = imports
         .iter()
         .map(|each| (each.module.as_str(), each.name.as_str()))
         .collect();
     assert_eq!(
         imports,
-        [("A.B", "a"), ("A.B", "_+_"), ("C", "c"), ("D", "")]
+        [("A.B", "a"), ("A.B", "◌+◌"), ("C", "c"), ("D", "")]
     );
 }
 
 #[test]
 fn a_function_ends_before_its_body() {
-    let text = "// a remark\n#[no_mangle]\npub fn f(x: u8) -> u8\n    ensures { λ r. ⌜ r ≡ x ⌝ }\n{\n    x\n}\n\npub struct S {\n    pub a: u8,\n}\n";
+    let text = "// a remark\n#[unsafe(no_mangle)]\npub fn f(x: u8) -> u8\n    ensures { result ≡ x }\n{\n    x\n}\n\npub struct S {\n    pub a: u8,\n}\n";
     let items = source::items(text);
     assert_eq!(items.len(), 2);
     assert_eq!(
         items[0].text,
-        "#[no_mangle]\npub fn f(x: u8) -> u8\n    ensures { λ r. ⌜ r ≡ x ⌝ }"
+        "#[unsafe(no_mangle)]\npub fn f(x: u8) -> u8\n    ensures { result ≡ x }"
     );
     assert_eq!(items[1].text, "pub struct S {\n    pub a: u8,\n}");
+}
+
+/// How a value is copied and how its proof is looked for is no part of what is stated; the other attributes are.
+#[test]
+fn an_attribute_for_the_checker_is_left_out() {
+    let text = "#[derive(Clone, Copy)]\n#[repr(C)]\npub struct S {\n    pub a: u8,\n}\n\n#[unsafe(no_mangle)]\n#[tactic(\n    auto,\n    using(Lemma.a)\n)]\npub fn f()\n{\n}\n";
+    let items = source::items(text);
+    assert_eq!(items.len(), 2);
+    assert_eq!(
+        items[0].text,
+        "#[repr(C)]\npub struct S {\n    pub a: u8,\n}"
+    );
+    assert_eq!(items[1].text, "#[unsafe(no_mangle)]\npub fn f()");
+}
+
+/// A clause's name is no word of its fact.
+#[test]
+fn the_facts_of_a_contract_are_read() {
+    let text = "pub fn f(x: u8) -> u8\n    requires low { x < 9 }\n    ensures high { result ≡ x }\n    ensures same { Same x\n        result }\n{\n    x\n}\n";
+    let item = &source::items(text)[0];
+    let (head, contract) = source::parts(item);
+    assert_eq!(head, "pub fn f(x: u8) -> u8");
+    assert_eq!(
+        source::facts(&contract)
+            .split_whitespace()
+            .collect::<Vec<_>>(),
+        "{ x < 9 } { result ≡ x } { Same x result }"
+            .split(' ')
+            .collect::<Vec<_>>()
+    );
 }

@@ -43,11 +43,11 @@ fn a_missing_archive_is_named_with_what_to_run() {
     let said = String::from_utf8_lossy(&output.stderr);
     assert!(!output.status.success());
     let missing =
-        "target/staticlib/libcapi.a is missing: run `rt staticlib capi` in the repository's root";
+        "target/staticlib/libcapi.a is missing: run `scripts/build archive` in the repository's root";
     assert!(said.contains(missing), "{said}");
 }
 
-/// Without the library there are the formats; and cargo leaves `target/` to rt.
+/// Without the library there are the formats; and cargo leaves `target/` to what is made of the proved crates.
 #[test]
 fn the_formats_are_built_without_the_archive() {
     let folder = copy("formats-alone");

@@ -4,8 +4,9 @@ use super::Page;
 use crate::statements::citations;
 
 /// The endings by which a word without a folder is the name of a file.
-pub const ENDINGS: [&str; 14] = [
+pub const ENDINGS: [&str; 17] = [
     "md", "rt", "antt", "rs", "c", "h", "a", "job", "out", "trial", "edit", "toml", "txt", "pc",
+    "py", "tsv", "patch",
 ];
 
 /// What the tools write or install, and pages name.
@@ -24,8 +25,8 @@ const MADE: [&str; 11] = [
 ];
 
 /// The folders at the repository's root.
-const FOLDERS: [&str; 8] = [
-    ".ci", "crates", "docs", "examples", "include", "rust", "scripts", "tests",
+const FOLDERS: [&str; 9] = [
+    ".ci", "crates", "docs", "examples", "include", "rust", "scripts", "tests", "tools",
 ];
 
 /// Whether a word can be the name of a file or a folder.

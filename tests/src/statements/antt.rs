@@ -14,7 +14,7 @@ pub struct Import {
 #[derive(Clone, Debug, PartialEq, Eq)]
 pub struct Token {
     pub text: String,
-    /// A field's name behind its dot, as `.rows`.
+    /// A field's name behind its dot, as `rows` in `bounds.rows`.
     pub projected: bool,
 }
 
@@ -132,7 +132,7 @@ pub fn tokens(line: &str) -> Vec<Token> {
             found.push(Token { text, projected });
         }
         let next = characters.get(index + 1).copied().unwrap_or(' ');
-        projected = character == '.' && (before == ' ' || before == ')') && !next.is_whitespace();
+        projected = character == '.' && !before.is_whitespace() && next.is_lowercase();
         if mark && !projected {
             let text = character.to_string();
             found.push(Token {

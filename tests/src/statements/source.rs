@@ -3,7 +3,7 @@
 use super::Item;
 
 /// Words of the language that a reader meets in types and signatures; the page's key explains those that occur.
-pub const WORDS: [&str; 14] = [
+pub const WORDS: [&str; 15] = [
     "u8",
     "u16",
     "u32",
@@ -17,8 +17,18 @@ pub const WORDS: [&str; 14] = [
     "requires",
     "ensures",
     "repr",
+    "unsafe",
     "no_mangle",
 ];
+
+/// The keywords of a contract's clauses.
+pub const CLAUSES: [&str; 2] = ["requires", "ensures"];
+
+/// What may stand behind a parameter's name in a contract: its value now, when the function is called, and when it has returned.
+pub const MOMENTS: [&str; 3] = ["now", "old", "new"];
+
+/// Attributes that say nothing to a reader of contracts: how values are copied, and how the checker looks for proofs.
+const UNREAD: [&str; 2] = ["#[derive(", "#[tactic("];
 
 /// A name of another crate that a source uses.
 #[derive(Clone, Debug, PartialEq, Eq)]
@@ -44,11 +54,26 @@ fn name_behind(line: &str, keyword: &str) -> Option<String> {
     Some(rest[..end].to_string())
 }
 
+/// The lines of a source without remarks and without the attributes that nobody reads, which may have several lines.
+fn read_lines(source: &str) -> Vec<&str> {
+    let mut found = Vec::new();
+    let mut is_inside = false;
+    for line in source.lines().filter(|line| !is_remark(line)) {
+        let begins = UNREAD.iter().any(|start| line.starts_with(start));
+        if begins || is_inside {
+            is_inside = !line.ends_with(")]");
+        } else {
+            found.push(line);
+        }
+    }
+    found
+}
+
 /// The types and functions at the margin. A function's text ends where its body begins.
 pub fn items(source: &str) -> Vec<Item> {
     let mut found = Vec::new();
     let mut attributes: Vec<&str> = Vec::new();
-    let lines: Vec<&str> = source.lines().filter(|line| !is_remark(line)).collect();
+    let lines = read_lines(source);
     for (index, line) in lines.iter().enumerate() {
         if line.starts_with("#[") {
             attributes.push(line);
@@ -86,10 +111,7 @@ fn function_lines<'a>(lines: &[&'a str]) -> Vec<&'a str> {
         }
         let head = line.strip_suffix(" {");
         found.push(head.unwrap_or(line));
-        if head.is_some()
-            && !line.trim_start().starts_with("ensures")
-            && !line.trim_start().starts_with("requires")
-        {
+        if head.is_some() && !begins_clause(line) {
             break;
         }
     }
@@ -120,13 +142,24 @@ pub fn uses(source: &str) -> Vec<Use> {
 
 /// The item's text before its contract, and the contract.
 pub fn parts(item: &Item) -> (String, String) {
-    let is_clause = |line: &&str| {
-        let line = line.trim_start();
-        line.starts_with("requires") || line.starts_with("ensures")
-    };
     let lines: Vec<&str> = item.text.lines().collect();
-    let end = lines.iter().position(is_clause).unwrap_or(lines.len());
+    let end = lines.iter().position(|line| begins_clause(line));
+    let end = end.unwrap_or(lines.len());
     (lines[..end].join("\n"), lines[end..].join("\n"))
+}
+
+fn begins_clause(line: &str) -> bool {
+    let line = line.trim_start();
+    CLAUSES.iter().any(|keyword| line.starts_with(keyword))
+}
+
+/// The facts of a contract, without the keywords of its clauses and the clauses' names. Its lines stay off the margin.
+pub fn facts(contract: &str) -> String {
+    let fact = |line: &str| {
+        let start = line.find('{').filter(|_| begins_clause(line));
+        format!("    {}", &line[start.unwrap_or(0)..])
+    };
+    contract.lines().map(fact).collect::<Vec<_>>().join("\n")
 }
 
 /// The identifiers of a text.

@@ -118,12 +118,17 @@ impl Walk {
             }
             found.extend(self.type_named(path, word));
         }
-        for clause in ["requires", "ensures"] {
+        for clause in source::CLAUSES {
             if contract.contains(clause) {
                 self.note(clause, &item.name);
             }
         }
-        let text = contract.replace("requires", "").replace("ensures", "");
+        let text = source::facts(&contract);
+        for token in text.lines().flat_map(antt::tokens) {
+            if token.projected && source::MOMENTS.contains(&token.text.as_str()) {
+                self.note(&token.text, &item.name);
+            }
+        }
         let name = item.name.clone();
         let parameters = words.into_iter().collect();
         found.extend(self.follow(path, &Item { name, text }, &parameters));
@@ -175,12 +180,11 @@ impl Walk {
     fn imported(&mut self, path: &str, import: &Import) -> Meaning {
         let (name, module) = (&import.name, &import.module);
         let Some((owner, rest)) = module
-            .strip_prefix("Rattle·")
+            .strip_prefix("Rattle.")
             .and_then(|rest| rest.split_once('.'))
         else {
             return Meaning::Library;
         };
-        let owner = owner.trim_end_matches("·specs");
         if !self.root.join("crates").join(owner).is_dir() {
             return Meaning::Library;
         }
@@ -189,7 +193,7 @@ impl Walk {
             let file = format!("crates/{owner}/specs/{}.antt", parts.join("/"));
             return Meaning::Definition((file, name.clone()));
         }
-        let type_name = parts.iter().rev().find(|part| **part != "the-variants");
+        let type_name = parts.iter().rev().find(|part| **part != "TheVariants");
         match self.in_sources(owner, type_name.unwrap_or(&"")) {
             Some(place) => Meaning::Definition(place),
             None => {
@@ -229,9 +233,9 @@ impl Walk {
     }
 }
 
-/// Whether the word is this name, or the visible part of an operator's, as `+` is of `_+_`.
+/// Whether the word is this name, or the visible part of an operator's, as `+` is of `◌+◌`.
 fn names(name: &str, word: &str) -> bool {
-    name == word || (name.contains('_') && name.split('_').any(|part| part == word))
+    name == word || (name.contains('◌') && name.split('◌').any(|part| part == word))
 }
 
 fn sources(root: &Path, folder: &str) -> Vec<String> {
