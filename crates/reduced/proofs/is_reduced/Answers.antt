@@ -39,7 +39,7 @@ returns c =
     let f = coefficients_at c.args.f in
     let g = c.args.g.c in
     let nonzero : length_of g ≡ 0 → ⊥ = (λ z. c.if-lg-eq0.false (c.length-lg.ensures.0 ∙ z)) in
-    let top : get_or g (length_of g - 1) 0 ≡ 1 = ap (λ (n : ℕ). get_or g (n - 1) 0) (sym c.length-lg.ensures.0) ∙ c.if-g-lg-ne1.false in
+    let top : get_or g (length_of g - 1) 0 ≡ 1 = cc (c.length-lg.ensures.0) in
     let d = common_divisor_of (modulus_of c.args.q) f g c.args.outputs in
     let e : c.length.result ≡ length_of d = c.length.ensures.0 ∙ ap length_of c.common_divisor-c.ensures in (
       λ t. constant_reduced _ P _ f c.requires.1 c.requires.2 nonzero top (sym e ∙ eqb-true _ _ t),

@@ -2,7 +2,7 @@
 use mathlib.Core.Path.{◌≡◌, sym, ap, ◌∙◌}
 use Prim.Native.Nat.{ℕ, ◌+◌, ◌<◌}
 use native.Mathlib.Omega.{arith}
-use lib.ListN.{length}
+use lib.ListN.{length, get_or}
 use borrow.Author.Rules.{rules}
 use Rattle.format.specs.Bounds.{numerator_bound_of}
 use Rattle.field.specs.Primes.{modulus_of}
@@ -32,11 +32,12 @@ returns-then-r c =
     let g-size : length c.args.c.g.c ≡ 32 = search rules in
     let f-sizes : (j : ℕ) → j < 4 → length (numerator_at c.args.c j) ≡ 32 = (λ j l. search (rules, size_of_each)) in
     let one : let g = c.args in Bounded (modulus_of g.b.prime) 1 g.h.c = bounded_mono (bounded_length c.requires.5) (omega arith) in
+    let unit : get_or c.args.h.c 0 0 ≡ 1 = omega arith in
     let whole-of-one : let g = c.args in
-    with_output g.b g.i g.a.c g.c.g.c g.h.c g.c ≡ extended_of g.b g.i g.a.c g.h.c g.c = one_extended one c.if-h-eq1.true c.requires.1 f-sizes c.args.i c.args.a.c (omega arith) (omega arith) in
+    with_output g.b g.i g.a.c g.c.g.c g.h.c g.c ≡ extended_of g.b g.i g.a.c g.h.c g.c = one_extended one unit c.requires.1 f-sizes c.args.i c.args.a.c (omega arith) (omega arith) in
     let g = c.args in (
       output_added g.b g.i g.a.c g.h.c g.c.g.c g.c g.c.g c.if-r.true
-          (sym (product_one c.requires.1.denominator one c.if-h-eq1.true g-size))
+          (sym (product_one c.requires.1.denominator one unit g-size))
           ∙ whole-of-one,
       fitting_set g.b c.requires.1 _ g.c.g g.a g.i (omega arith) c.requires.1.denominator numerator_fits,
     )
@@ -45,8 +46,9 @@ pub returns-else-r : goal.returns-else-r
 returns-else-r c =
     let f-sizes : (j : ℕ) → j < 4 → length (numerator_at c.args.c j) ≡ 32 = (λ j l. search (rules, size_of_each)) in
     let one : let g = c.args in Bounded (modulus_of g.b.prime) 1 g.h.c = bounded_mono (bounded_length c.requires.5) (omega arith) in
+    let unit : get_or c.args.h.c 0 0 ≡ 1 = omega arith in
     let whole-of-one : let g = c.args in
-    with_output g.b g.i g.a.c g.c.g.c g.h.c g.c ≡ extended_of g.b g.i g.a.c g.h.c g.c = one_extended one c.if-h-eq1.true c.requires.1 f-sizes c.args.i c.args.a.c (omega arith) (omega arith) in
+    with_output g.b g.i g.a.c g.c.g.c g.h.c g.c ≡ extended_of g.b g.i g.a.c g.h.c g.c = one_extended one unit c.requires.1 f-sizes c.args.i c.args.a.c (omega arith) (omega arith) in
     let g = c.args in
     (output_left g.b g.i g.a.c g.h.c g.c.g.c g.c c.if-r.false ∙ whole-of-one, c.requires.1)
 
