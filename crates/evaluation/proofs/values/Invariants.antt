@@ -7,7 +7,7 @@ use Rattle.evaluation.proofs.values.Given as goal
 
 abbrev pub invariant-loop-k : goal.invariant-loop-k
 invariant-loop-k l =
-    (l.k ≤ l.n) × Residues l.ps l.v × Evaluated (modulus_at l.ps) l.xs l.rows (drop l.k l.a.c) l.v
+    (l.k ≤ l.n) × Residues l.m.p l.v × Evaluated (modulus_at l.m.p) l.xs l.rows (drop l.k l.a.c) l.v
 
 abbrev pub decreases-loop-k : goal.decreases-loop-k
 decreases-loop-k l = l.k
