@@ -2,8 +2,6 @@ use mathlib.Core.Path.{◌≡◌, ◌∙◌}
 use native.Mathlib.Omega.{arith}
 use borrow.Author.Rules.{rules}
 use lib.ListN.{length}
-use Rattle.field.proofs.Moduli.{residue_below}
-use Rattle.poly.proofs.Lists.{bounded_mono}
 use Rattle.euclid.proofs.Leading.{length_array, divisor_array, leading-residue, leading_is}
 use Rattle.euclid.proofs.Steps.{bounded_remainder, bounded_quotient}
 use Rattle.euclid.proofs.Loop.{progress_start, progress_step, progress_end}
@@ -22,11 +20,6 @@ loop-top-init c =
     let size-a : length c.args.a.c ≡ 32 = search rules in
     let inverse-is = c.nonzero_reciprocal-inverse.ensures ∙ leading_is divisor in
     (rw c.zero-quotient.ensures (progress_start divisor inverse-is c.args.a.c _ (omega arith) c.requires.0 size-a c.requires.1), size-a)
-
-pub cancel-requires : goal.cancel-requires
-cancel-requires c =
-    let low = c.loop-top.invariant.0.low in
-    (omega arith, rw c.product-k.ensures (residue_below c.args.q _), bounded_mono c.loop-top.invariant.0.bounded (omega arith), c.requires.4, c.loop-top.invariant.1)
 
 pub loop-top-preserved : goal.loop-top-preserved
 loop-top-preserved c =

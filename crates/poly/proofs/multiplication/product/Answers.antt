@@ -1,16 +1,12 @@
 use native.Mathlib.Omega.{arith}
 use Rattle.field.proofs.Moduli.{modulus_positive}
 use Rattle.poly.specs.Operations.{product_of}
-use Rattle.lists.proofs.Filling.{filled_none, filled_more, filled_all}
+use Rattle.lists.proofs.Filling.{filled_none, filled_all}
 use Rattle.poly.proofs.Products.{product-reduced_past, bounded_product}
 use Rattle.poly.proofs.multiplication.product.Goals as goal
 
 pub loop-k-init : goal.loop-k-init
 loop-k-init c = filled_none 32 _ _ c.zero-r.ensures
-
-pub loop-k-preserved : goal.loop-k-preserved
-loop-k-preserved c =
-    filled_more c.loop-k.invariant c.product_coefficient.result (omega arith) c.product_coefficient.ensures
 
 pub returns : goal.returns
 unfolding product_of

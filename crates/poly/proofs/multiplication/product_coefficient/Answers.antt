@@ -12,11 +12,6 @@ loop-i-init c =
     let e = c.saturating_sub-i.ensures in
     (omega arith, sym (rw e (product-start c.requires.1 c.requires.2 _)), omega arith)
 
-pub overflow_add-acc : goal.overflow_add-acc
-overflow_add-acc c =
-    let h = small_product c.args.q (le_of_lt (c.requires.1.residues c.loop-i.i)) (le_of_lt (c.requires.2.residues (c.args.k - c.loop-i.i))) in
-    omega arith
-
 pub loop-i-preserved : goal.loop-i-preserved
 loop-i-preserved c =
     let h = small_product c.args.q (le_of_lt (c.requires.1.residues c.loop-i.i)) (le_of_lt (c.requires.2.residues (c.args.k - c.loop-i.i))) in
