@@ -17,21 +17,11 @@ pub struct Field {
     pub next: Cursor,
 }
 
-// A byte as a wider number.
-pub fn wide(b: u8) -> u32
-    ensures { (result ≡ b) × (result < 256) }
-{
-    b as u32
-}
-
 // Byte k as a wider number, 0 where there is none.
-fn byte_or_zero(s: &[u8], k: usize) -> u32
+pub fn byte_or_zero(s: &[u8], k: usize) -> u32
     ensures { (result ≡ get_or s.now k 0) × (result < 256) }
 {
-    if k < s.len() {
-        return wide(s[k]);
-    }
-    0
+    u32::from(s.get(k).copied().unwrap_or(0))
 }
 
 impl Cursor {
@@ -45,7 +35,7 @@ impl Cursor {
         let pair = byte_or_zero(s, first) * 256 + byte_or_zero(s, first + 1);
         let value = (pair >> (16 - end)) % (1u32 << bits);
         Field {
-            value: value,
+            value,
             next: Cursor { at: self.at + bits },
         }
     }
