@@ -17,6 +17,13 @@ pub struct Poly {
     pub c: [u32; 32],
 }
 
+// A vector of fractions in lowest terms: the common denominator and the numerators, those of outputs that do not exist being zero.
+#[derive(Clone, Copy)]
+pub struct Vector {
+    pub g: Poly,
+    pub f: [Poly; 4],
+}
+
 pub fn zero() -> Poly
     ensures { result.c ≡ replicate 32 0 }
 {
