@@ -13,6 +13,7 @@ pub fn difference(p: u16, a: u16, b: u16) -> u16
 }
 
 // The number of a factor times a, the factor given by its form and its low half.
+#[tactic(auto, unfolding(crate::specs::Reduction::reduced_of))]
 pub fn product(p: u16, form: u16, low: u16, a: u16) -> u16
     requires { (form < p) × (a < p) }
     ensures { result ≡ reduced_of p form low a }

@@ -1,7 +1,7 @@
 use mathlib.Core.Path.{◌≡◌, refl, ◌∙◌}
 use Prim.Native.Nat.{ℕ, ◌+◌, ◌-◌, ◌<◌}
 use lib.ListN.{get_or, length, replicate}
-use Rattle.field.proofs.Moduli.{modulus_positive, modulus_small}
+use Rattle.field.proofs.Moduli.{modulus_positive}
 use Rattle.lists.proofs.Tabulated.{at_zeros}
 use Rattle.lanes.specs.Lanes.{modulus_at, Residues}
 use Rattle.lanes_meaning.proofs.Meaning.{stored_replaced, horner_below}
@@ -36,12 +36,3 @@ loop-k-preserved c =
       rw e (stored_replaced _ _ _ inv.0 (λ l h. horner_below m.constants l h _ _ _ _)),
       λ points h. e ∙ values-step m.constants m.inverses _ c.requires.0 points c.args.a.c _ _ (k - 1) _ h (rw next (inv.1 points h)) (omega arith) refl low,
     )
-
-pub returns : goal.returns
-returns c =
-    let none : c.loop-k.k ≡ 0 = omega arith in
-    λ points h. rw (c.new-m.ensures.constants.number, none) at (c.loop-k.invariant.1 points (rw c.new-m.ensures.constants.number h))
-
-pub overflow_cast-a : goal.overflow_cast-a
-overflow_cast-a c =
-    omega (arith, c.requires.2.residues (c.loop-k.k - 1), modulus_small c.args.q)
