@@ -26,14 +26,14 @@ pub fn number_or_zero(s: &[u8], k: usize) -> u32
 }
 
 impl Cursor {
-    // The field of so many bits at the cursor, which moves behind it; it stands in two bytes.
-    pub fn take(&mut self, s: &[u8], bits: usize) -> u32
-        requires { (self.old.at < 2 ^ 32) × (self.old.at % 8 + bits ≤ 16) }
-        ensures { (result ≡ field_of s.now self.old.at bits) × (self.new.at ≡ self.old.at + bits) }
+    // The field of so many bits at the cursor, and the cursor behind it; the field stands in two bytes.
+    pub fn take(self, s: &[u8], bits: usize) -> (u32, Cursor)
+        requires { (self.at < 2 ^ 32) × (self.at % 8 + bits ≤ 16) }
+        ensures { (result.0 ≡ field_of s.now self.at bits) × (result.1.at ≡ self.at + bits) }
     {
         let end = self.at % 8 + bits;
         let pair = number_or_zero(s, self.at / 8);
-        self.at += bits;
-        (pair >> (16 - end)) % (1u32 << bits)
+        let field = (pair >> (16 - end)) % (1u32 << bits);
+        (field, Cursor { at: self.at + bits })
     }
 }

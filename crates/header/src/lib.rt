@@ -54,9 +54,11 @@ fn read_added(s: &[u8], mut at: Cursor) -> Added
 {
     let mut numerators = [0; 4];
     for bound in &mut numerators {
-        *bound = at.take(s, 5) as usize;
+        let (value, next) = at.take(s, 5);
+        *bound = value as usize;
+        at = next;
     }
-    let flags = at.take(s, 12);
+    let (flags, _) = at.take(s, 12);
     Added { numerators, flags }
 }
 
@@ -77,23 +79,25 @@ fn added_or_not(s: &[u8], at: Cursor, spare: u32, outputs: usize, df: usize) -> 
 pub fn read_header(s: &[u8]) -> Header
     ensures { result ≡ header_of s.now }
 {
-    let mut at = Cursor { at: 0 };
-    let prime = field::prime_of_code(at.take(s, 2));
-    let outputs = at.take(s, 2) as usize + 1;
-    let rows = at.take(s, 5) as usize;
-    let df = at.take(s, 5) as usize;
-    let dg = at.take(s, 5) as usize;
-    let errors = at.take(s, 4) as usize;
-    let spare = at.take(s, 1);
+    let start = Cursor { at: 0 };
+    let (code, at) = start.take(s, 2);
+    let (outputs, at) = at.take(s, 2);
+    let (rows, at) = at.take(s, 5);
+    let (df, at) = at.take(s, 5);
+    let (dg, at) = at.take(s, 5);
+    let (errors, at) = at.take(s, 4);
+    let (spare, at) = at.take(s, 1);
+    let outputs = outputs as usize + 1;
+    let df = df as usize;
     let Added { numerators, flags } = added_or_not(s, at, spare, outputs, df);
     Header {
         bounds: Bounds {
-            prime,
+            prime: field::prime_of_code(code),
             outputs,
-            rows,
+            rows: rows as usize,
             numerators,
-            dg,
-            errors,
+            dg: dg as usize,
+            errors: errors as usize,
         },
         df,
         flags,

@@ -16,20 +16,20 @@ field_at s {v} k bits e h = h ∙ ap (λ (x : ℕ). field_of s x bits) e
 pub added_or_not-flags-requires : goal.added_or_not-flags-requires
 added_or_not-flags-requires c =
     let s = c.args.s.now in
-    let outputs : c.take-2.result ≡ field_of s 2 2 = field_at s 2 2 (omega arith) c.take-2.ensures.0 in
+    let outputs : c.take-outputs.result.0 ≡ field_of s 2 2 = field_at s 2 2 (omega arith) c.take-outputs.ensures.0 in
     (omega arith, omega (arith, outputs, field_below s 2 2))
 
 pub returns : goal.returns
 unfolding bounds_of outputs_of df_of spare_bit_of numerator_bounds_of flags_of
 returns c =
     let s = c.args.s.now in
-    let code = c.prime_of_code-prime.ensures ∙ ap prime_of_code c.take.ensures.0 in
-    let outputs : c.take-2.result ≡ field_of s 2 2 = field_at s 2 2 (omega arith) c.take-2.ensures.0 in
-    let rows : c.take-rows.result ≡ field_of s 4 5 = field_at s 4 5 (omega arith) c.take-rows.ensures.0 in
-    let df : c.take-df.result ≡ field_of s 9 5 = field_at s 9 5 (omega arith) c.take-df.ensures.0 in
-    let dg : c.take-dg.result ≡ field_of s 14 5 = field_at s 14 5 (omega arith) c.take-dg.ensures.0 in
-    let errors : c.take-errors.result ≡ field_of s 19 4 = field_at s 19 4 (omega arith) c.take-errors.ensures.0 in
-    let spare : c.take-spare.result ≡ field_of s 23 1 = field_at s 23 1 (omega arith) c.take-spare.ensures.0 in
+    let code = c.prime_of_code.ensures ∙ ap prime_of_code c.take-code.ensures.0 in
+    let outputs : c.take-outputs.result.0 ≡ field_of s 2 2 = field_at s 2 2 (omega arith) c.take-outputs.ensures.0 in
+    let rows : c.take-rows.result.0 ≡ field_of s 4 5 = field_at s 4 5 (omega arith) c.take-rows.ensures.0 in
+    let df : c.take-df.result.0 ≡ field_of s 9 5 = field_at s 9 5 (omega arith) c.take-df.ensures.0 in
+    let dg : c.take-dg.result.0 ≡ field_of s 14 5 = field_at s 14 5 (omega arith) c.take-dg.ensures.0 in
+    let errors : c.take-errors.result.0 ≡ field_of s 19 4 = field_at s 19 4 (omega arith) c.take-errors.ensures.0 in
+    let spare : c.take-spare.result.0 ≡ field_of s 23 1 = field_at s 23 1 (omega arith) c.take-spare.ensures.0 in
     let own = rw (spare, outputs, df) at c.added_or_not-flags.ensures.0 in
     let flags = rw spare at c.added_or_not-flags.ensures.1 in
     λ i. record {
