@@ -116,3 +116,9 @@ module _ (row : Row) (n p : ℕ) where
   -- and where marks are not allowed no row has one
   pub refused_form : test ≡ true → std.None ≡ row_form_of p (conditions_by (mark_of false n (λ i. get_or row.values i 0)) row)
   refused_form e = rw (unmarked_if_not_allowed false n (λ i. get_or row.values i 0) refl, e) refl
+
+  -- where they are, a row that is settled by its mark and passes test 5 is what the definition has
+  pub marked_form : {allowed : Bool} {x : RowConditions} {t : Bool} → allowed ≡ true → x ≡ conditions_by (mark_of true n (λ i. get_or row.values i 0)) row
+      → t ≡ (leb p x.point || any_below 4 (λ i. leb p (get_or x.values i 0))) → t ≡ false
+      → Some x.speaking ≡ row_form_of p (conditions_by (mark_of allowed n (λ i. get_or row.values i 0)) row)
+  marked_form allowed settled e passed = rw (allowed, ← settled, ← e, passed) refl

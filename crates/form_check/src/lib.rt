@@ -3,7 +3,7 @@
 #![tactic(auto)]
 
 ghost use Rattle.std.specs.Prelude.{◌<◌, ◌≤◌, ◌||◌, ◌≡◌, leb, length, get_or, Ok};
-ghost use Rattle.header.specs.Header.{header_of, job_length_of, FitsHeader};
+ghost use Rattle.header.specs.Header.{header_of, job_length_of, marks_allowed, FitsHeader};
 ghost use Rattle.job.specs.Refusals.{row_tests};
 ghost use Rattle.job.specs.Form.{form_outcome_of};
 ghost use Rattle.marked_rows.specs.Marks.{mark_of};
@@ -46,16 +46,16 @@ fn is_out_of_range(point: u32, v: [u32; 4], p: u32) -> bool
     (p <= point) | (p <= v[0]) | (p <= v[1]) | (p <= v[2]) | (p <= v[3])
 }
 
-// How many rows a row adds to those that speak, or nothing where test 5 refuses it. It is asked for its mark only if a number in it is p or more:
-// marks are.
-fn row_form(row: Row, outputs: usize, marks: bool, p: u32) -> Option<usize>
+// How many rows a row adds to those that speak, or nothing where test 5 refuses it. Where marks are allowed it is asked for its mark, but only if a
+// number in it is p or more: marks are.
+fn row_form<const MARKS: bool>(row: Row, outputs: usize, p: u32) -> Option<usize>
     requires { (1 ≤ outputs) × (outputs ≤ 4) × (p < 65534) }
-    ensures { result ≡ row_form_of p (conditions_by (mark_of marks outputs (λ i. get_or row.values i 0)) row) }
+    ensures { result ≡ row_form_of p (conditions_by (mark_of MARKS outputs (λ i. get_or row.values i 0)) row) }
 {
     if !is_out_of_range(row.point, row.values, p) {
         return Some(1);
     }
-    if !marks {
+    if !MARKS {
         return None;
     }
     let marked = row_conditions(row, outputs, true);
@@ -68,23 +68,38 @@ fn row_form(row: Row, outputs: usize, marks: bool, p: u32) -> Option<usize>
 }
 
 // Reads each row once, and stores its point: the first row that test 5 refuses, and where there is none how many rows speak.
-fn scan_rows(job: &[u8], header: &Header, points: &mut [u32; 32]) -> Result<usize, u32>
-    requires { (header.now ≡ header_of job.now) × FitsHeader header.now × (length job.now ≡ job_length_of header.now) × (length points.old ≡ 32) }
+fn scan<const MARKS: bool>(
+    job: &[u8],
+    header: &Header,
+    points: &mut [u32; 32],
+) -> Result<usize, u32>
+    requires read { (header.now ≡ header_of job.now) × FitsHeader header.now × (length job.now ≡ job_length_of header.now) × (length points.old ≡ 32) }
+    requires marks { MARKS ≡ marks_allowed header.now.flags }
     ensures { Scanned job.now result points.new }
 {
     let bounds = header.bounds;
     let p = field::modulus(bounds.prime);
-    let marks = header.marks_allowed();
     let mut speaking = 0;
     for r in 0..bounds.rows {
         let row = row_at(job, header.length, r, bounds.rows, bounds.outputs);
         points[r] = row.point;
-        let Some(adds) = row_form(row, bounds.outputs, marks, p) else {
+        let Some(adds) = row_form::<MARKS>(row, bounds.outputs, p) else {
             return Err(r as u32);
         };
         speaking = speaking + adds;
     }
     Ok(speaking)
+}
+
+// The same by the header's flag, which no row is asked for.
+fn scan_rows(job: &[u8], header: &Header, points: &mut [u32; 32]) -> Result<usize, u32>
+    requires { (header.now ≡ header_of job.now) × FitsHeader header.now × (length job.now ≡ job_length_of header.now) × (length points.old ≡ 32) }
+    ensures { Scanned job.now result points.new }
+{
+    if header.marks_allowed() {
+        return scan::<true>(job, header, points);
+    }
+    scan::<false>(job, header, points)
 }
 
 // Tests 5, 12 and 6, where the earlier ones do not apply. Behind the points stands a number that no point is.
