@@ -5,6 +5,7 @@ ghost use Rattle.std.specs.Prelude.{◌<◌, ◌≤◌, ◌≡◌, length};
 ghost use Rattle.read_u64.specs.Words.{joined_bytes, part_of};
 
 // The word of the first eight bytes.
+#[tactic(auto, using(crate::proofs::Parts::eight_bytes))]
 pub fn read_u64(bytes: &[u8]) -> u64
     requires { 8 ≤ length bytes.now }
     ensures { result ≡ joined_bytes bytes.now 0 8 }
