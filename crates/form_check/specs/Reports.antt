@@ -1,8 +1,9 @@
 -- Paper 02, item 4: what a check for form returns.
-use Rattle.format.specs.declared.Outcome.{Outcome}
-use Rattle.format.specs.Outcomes.{report_of}
+use Rattle.std.specs.Prelude.{Result}
+use Rattle.format.specs.declared.Refusal.{Refusal}
+use Rattle.format.specs.Outcomes.{check_report_of}
 use Rattle.form_check.specs.declared.FormReport.{FormReport}
 
 -- "A refusal carries its number and the row it speaks of"; both are 0 where the job is accepted
-abbrev pub form_report_of : Outcome → FormReport
-form_report_of outcome = record { refusal = (report_of outcome).refusal; row = (report_of outcome).row }
+abbrev pub form_report_of : Result (Unit {0}) Refusal → FormReport
+form_report_of check = record { refusal = (check_report_of check).refusal; row = (check_report_of check).row }

@@ -2,8 +2,7 @@
 // There is no answer area, and no more of a job's rows is kept than their points.
 #![tactic(auto)]
 
-ghost use Rattle.std.specs.Prelude.{◌<◌, ◌≤◌, true, false, ◌||◌, ◌≡◌, leb, length, get_or};
-ghost use Rattle.format.specs.declared.Outcome.TheVariants.{Accepted};
+ghost use Rattle.std.specs.Prelude.{◌<◌, ◌≤◌, ◌||◌, ◌≡◌, leb, length, get_or, Ok};
 ghost use Rattle.header.specs.Header.{header_of, job_length_of, FitsHeader};
 ghost use Rattle.job.specs.Refusals.{row_tests};
 ghost use Rattle.job.specs.Form.{form_outcome_of};
@@ -11,188 +10,105 @@ ghost use Rattle.marked_rows.specs.Marks.{mark_of};
 ghost use Rattle.marked_rows.specs.Table.{conditions_by};
 ghost use Rattle.lists.specs.Search.{any_below};
 ghost use Rattle.form_check.specs.Reports.{form_report_of};
-ghost use Rattle.form_check.specs.Steps.{HeaderNumbers, row_form_of, Scanned};
+ghost use Rattle.form_check.specs.Steps.{row_form_of, Scanned};
 
-use format::Outcome;
+use format::{Refusal, Report};
 use header::{Header, read_header, rows_needed};
 use job::{check_header, check_table};
-use lists::Found;
 use marked_rows::row_conditions;
 use rows::{Row, row_at};
 
-// An outcome in the papers' numbers: the refusal (0 where none) and the row it names. Callers in C get it as it stands here.
+// What a check tells in the papers' numbers: the refusal (0 where none) and the row it names. Callers in C get it as it stands here.
 #[repr(C)]
-#[derive(Clone, Copy)]
+#[derive(Clone, Copy, Debug, PartialEq, Eq)]
 pub struct FormReport {
     pub refusal: u32,
     pub row: u32,
 }
 
-pub fn reported(outcome: Outcome) -> FormReport
-    ensures { result ≡ form_report_of outcome }
-{
-    let report = format::reported(outcome);
-    FormReport {
-        refusal: report.refusal,
-        row: report.row,
+impl From<Result<(), Refusal>> for FormReport {
+    ghost from_gives = { λ check report. report ≡ form_report_of check };
+
+    fn from(check: Result<(), Refusal>) -> FormReport {
+        let report = Report::from(check);
+        FormReport {
+            refusal: report.refusal,
+            row: report.row,
+        }
     }
 }
 
 // Whether the point or a value is p or more. Values that do not exist are 0.
+// Kept: five tests with no branch, since each row of each job takes them; `any` branches at each value.
 fn is_out_of_range(point: u32, v: [u32; 4], p: u32) -> bool
     ensures { result ≡ (leb p point || any_below 4 (λ i. leb p (get_or v i 0))) }
 {
     (p <= point) | (p <= v[0]) | (p <= v[1]) | (p <= v[2]) | (p <= v[3])
 }
 
-// What a row says by its mark: whether test 5 refuses it, and how many rows it adds to those that speak.
-#[derive(Clone, Copy)]
-struct RowForm {
-    refused: bool,
-    speaking: usize,
-}
-
-// A row of a job with the flag. It is asked for its mark only if a number in it is p or more: marks are.
-fn row_form(row: Row, outputs: usize, p: u32) -> RowForm
+// How many rows a row adds to those that speak, or nothing where test 5 refuses it. It is asked for its mark only if a number in it is p or more:
+// marks are.
+fn row_form(row: Row, outputs: usize, marks: bool, p: u32) -> Option<usize>
     requires { (1 ≤ outputs) × (outputs ≤ 4) × (p < 65534) }
-    ensures { result ≡ row_form_of p (conditions_by (mark_of true outputs (λ i. get_or row.values i 0)) row) }
+    ensures { result ≡ row_form_of p (conditions_by (mark_of marks outputs (λ i. get_or row.values i 0)) row) }
 {
-    let numbers = row.values;
-    if is_out_of_range(row.point, numbers, p) {
-        let marked = row_conditions(row, outputs, true);
-        let sides = marked.values;
-        let refused = is_out_of_range(marked.point, sides, p);
-        return RowForm {
-            refused: refused,
-            speaking: marked.speaking,
-        };
+    if !is_out_of_range(row.point, row.values, p) {
+        return Some(1);
     }
-    RowForm {
-        refused: false,
-        speaking: 1,
+    if !marks {
+        return None;
     }
+    let marked = row_conditions(row, outputs, true);
+    let sides = marked.values;
+    let refused = is_out_of_range(marked.point, sides, p);
+    if refused {
+        return None;
+    }
+    Some(marked.speaking)
 }
 
-// What a pass over the rows finds, besides the points that it stores: the first row that test 5 refuses, and where there is none how many rows speak.
-#[derive(Clone, Copy)]
-struct Scan {
-    found: Found,
-    speaking: usize,
-}
-
-// The rows of a job without the flag: values are numbers, and all rows speak.
-fn scan_numbers(
-    job: &[u8],
-    start: usize,
-    rows: usize,
-    outputs: usize,
-    p: u32,
-    points: &mut [u32; 32],
-) -> Scan
-    requires { HeaderNumbers job.now start rows outputs false p × (length points.old ≡ 32) }
+// Reads each row once, and stores its point: the first row that test 5 refuses, and where there is none how many rows speak.
+fn scan_rows(job: &[u8], header: &Header, points: &mut [u32; 32]) -> Result<usize, u32>
+    requires { (header.now ≡ header_of job.now) × FitsHeader header.now × (length job.now ≡ job_length_of header.now) × (length points.old ≡ 32) }
     ensures { Scanned job.now result points.new }
 {
-    for r in 0..rows {
-        let row = row_at(job, start, r, rows, outputs);
-        let values = row.values;
-        points[r] = row.point;
-        if is_out_of_range(row.point, values, p) {
-            let at = r as u32;
-            return Scan {
-                found: Found::At(at),
-                speaking: rows,
-            };
-        }
-    }
-    Scan {
-        found: Found::Nothing,
-        speaking: rows,
-    }
-}
-
-// The rows of a job with the flag, by their marks.
-fn scan_marked(
-    job: &[u8],
-    start: usize,
-    rows: usize,
-    outputs: usize,
-    p: u32,
-    points: &mut [u32; 32],
-) -> Scan
-    requires { HeaderNumbers job.now start rows outputs true p × (length points.old ≡ 32) }
-    ensures { Scanned job.now result points.new }
-{
+    let bounds = header.bounds;
+    let p = field::modulus(bounds.prime);
+    let marks = header.marks_allowed();
     let mut speaking = 0;
-    for r in 0..rows {
-        let row = row_at(job, start, r, rows, outputs);
-        let form = row_form(row, outputs, p);
+    for r in 0..bounds.rows {
+        let row = row_at(job, header.length, r, bounds.rows, bounds.outputs);
         points[r] = row.point;
-        speaking = speaking + form.speaking;
-        if form.refused {
-            let at = r as u32;
-            return Scan {
-                found: Found::At(at),
-                speaking: speaking,
-            };
-        }
+        let Some(adds) = row_form(row, bounds.outputs, marks, p) else {
+            return Err(r as u32);
+        };
+        speaking = speaking + adds;
     }
-    Scan {
-        found: Found::Nothing,
-        speaking: speaking,
-    }
-}
-
-// Either, by the flag: each row is read once.
-fn scan_rows(
-    job: &[u8],
-    start: usize,
-    rows: usize,
-    outputs: usize,
-    marks: bool,
-    p: u32,
-    points: &mut [u32; 32],
-) -> Scan
-    requires { HeaderNumbers job.now start rows outputs marks p × (length points.old ≡ 32) }
-    ensures { Scanned job.now result points.new }
-{
-    if marks {
-        return scan_marked(job, start, rows, outputs, p, points);
-    }
-    scan_numbers(job, start, rows, outputs, p, points)
+    Ok(speaking)
 }
 
 // Tests 5, 12 and 6, where the earlier ones do not apply. Behind the points stands a number that no point is.
-fn check_rows(job: &[u8], header: Header) -> Outcome
-    requires { (header ≡ header_of job.now) × FitsHeader header × (length job.now ≡ job_length_of header) }
-    ensures { result ≡ row_tests job.now Accepted }
+fn check_rows(job: &[u8], header: &Header) -> Result<(), Refusal>
+    requires { (header.now ≡ header_of job.now) × FitsHeader header.now × (length job.now ≡ job_length_of header.now) }
+    ensures { result ≡ row_tests job.now (Ok tt) }
 {
-    let bounds = header.bounds;
-    let prime = bounds.prime;
-    let p = field::modulus(prime);
-    let marks = header.marks_allowed();
     let mut points = [65536u32; 32];
-    let scanned = scan_rows(
-        job,
-        header.length,
-        bounds.rows,
-        bounds.outputs,
-        marks,
-        p,
-        &mut points,
-    );
-    let found = scanned.found;
-    let needed = rows_needed(header);
-    check_table(bounds.rows, needed, found, scanned.speaking, &points)
+    let scanned = scan_rows(job, header, &mut points);
+    let needed = rows_needed(*header);
+    check_table(
+        header.bounds.rows,
+        needed,
+        scanned.err(),
+        scanned.unwrap_or(0),
+        &points,
+    )
 }
 
-// The first of tests 1, 11, 3, 4, 5, 12 and 6 that applies to a job, any bytes; Accepted where none does.
-pub fn check(job: &[u8]) -> Outcome
+// Refuses a job, any bytes, by the first of tests 1, 11, 3, 4, 5, 12 and 6 that applies.
+pub fn check(job: &[u8]) -> Result<(), Refusal>
     ensures { result ≡ form_outcome_of job.now }
 {
     let header = read_header(job);
-    let outcome = check_header(job.len(), header);
-    let Outcome::Accepted = outcome else {
-        return outcome;
-    };
-    check_rows(job, header)
+    check_header(job.len(), header)?;
+    check_rows(job, &header)
 }
