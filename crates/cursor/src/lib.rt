@@ -10,13 +10,6 @@ pub struct Cursor {
     pub at: usize,
 }
 
-// A field's number, and the place after it.
-#[derive(Clone, Copy)]
-pub struct Field {
-    pub value: u32,
-    pub next: Cursor,
-}
-
 // Byte k, 0 where there is none.
 pub fn byte_or_zero(s: &[u8], k: usize) -> u8
     ensures { (result ≡ get_or s.now k 0) × (result < 256) }
@@ -33,17 +26,14 @@ pub fn number_or_zero(s: &[u8], k: usize) -> u32
 }
 
 impl Cursor {
-    // The field of so many bits at the cursor; it stands in two bytes.
-    pub fn take(self, s: &[u8], bits: usize) -> Field
-        requires { (self.at < 2 ^ 32) × (self.at % 8 + bits ≤ 16) }
-        ensures { (result.value ≡ field_of s.now self.at bits) × (result.next.at ≡ self.at + bits) }
+    // The field of so many bits at the cursor, which moves behind it; it stands in two bytes.
+    pub fn take(&mut self, s: &[u8], bits: usize) -> u32
+        requires { (self.old.at < 2 ^ 32) × (self.old.at % 8 + bits ≤ 16) }
+        ensures { (result ≡ field_of s.now self.old.at bits) × (self.new.at ≡ self.old.at + bits) }
     {
         let end = self.at % 8 + bits;
         let pair = number_or_zero(s, self.at / 8);
-        let value = (pair >> (16 - end)) % (1u32 << bits);
-        Field {
-            value,
-            next: Cursor { at: self.at + bits },
-        }
+        self.at += bits;
+        (pair >> (16 - end)) % (1u32 << bits)
     }
 }

@@ -11,5 +11,5 @@ pub returns : goal.returns
 returns c =
     let a = c.args in
     let power : 1 * 2 ^ a.bits % 4294967296 ≡ 2 ^ a.bits = shl_whole 1 1 a.bits 32 (omega arith) (omega arith) ∙ one-mul (2 ^ a.bits) in
-    let field = field_of_pair a.s.now (λ k. (c.type_inv.s k).fits) a.self.at a.bits (omega arith) in
+    let field = field_of_pair a.s.now (λ k. (c.type_inv.s k).fits) a.self.now.at a.bits (omega arith) in
     (rw (power, c.number_or_zero-pair.ensures.0, field) refl, refl)
