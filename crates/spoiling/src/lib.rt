@@ -32,6 +32,7 @@ fn untaken_from(by: &[u32; 32], rows: usize, d: usize) -> usize
 }
 
 // The row that a draw chooses.
+#[tactic(auto, unfolding(crate::specs::Spoiling::chosen_row))]
 fn chosen_row(by: &[u32; 32], rows: usize, word: u32) -> usize
     requires { (0 < rows) × (rows ≤ 32) }
     ensures { result ≡ chosen_row rows (λ i. slice_index by.now i) word }

@@ -1,4 +1,4 @@
-use Rattle.std.proofs.Common.{◌≡◌, lt_of_lt_of_le, arith, lit<}
+use Rattle.std.proofs.Common.{lt_of_lt_of_le, arith, lit<}
 use borrow.Author.Rules.{scaled_Fits}
 use Rattle.spoiling.proofs.Added.{chosen_row_below}
 use Rattle.spoiling.proofs.Storing.{spoiled_none, spoiled_more}
@@ -19,11 +19,6 @@ loop-preserved c =
       spoiled_more c.loop.invariant.1 pre.0 pre.1 c.next_word-word.ensures
           c.chosen_row-row.ensures c.next_word-last.ensures c.amount.ensures,
     )
-
-pub returns : goal.returns
-returns c =
-    let all : c.loop.counter ≡ c.args.count = omega arith in
-    rw (← all) c.loop.invariant.1.additions
 
 pub loop-init : goal.loop-init
 loop-init c = (omega arith, spoiled_none _ _ _)

@@ -1,5 +1,5 @@
 -- What `find` finds among 0 .. rows - 1 is what the definition's search finds; where nothing is found, code and definition both say d.
-use Rattle.std.proofs.Common.{◌≡◌, ℕ, ◌+◌, ◌%◌, ◌<◌, ◌≤◌, Option, Some, None, get_or, eqb, not, sym, ap, ◌∙◌, arith, rules, tests, unwrap_or, eq-eqb, ne_eqb}
+use Rattle.std.proofs.Common.{◌≡◌, ℕ, ◌+◌, ◌%◌, ◌<◌, ◌≤◌, Option, Some, None, get_or, eqb, not, refl, sym, ap, ◌∙◌, arith, rules, tests, unwrap_or, eq-eqb, ne_eqb}
 use Rattle.std.specs.Option.{MatchOption}
 use Rattle.std.proofs.lemmas.Iterator.{first_from_Range}
 use Rattle.lists.specs.Search.{first_below}
@@ -21,6 +21,10 @@ first_within : (n : ℕ) (x : ℕ → ℕ) (o : Option ℕ) → FirstZero n x o 
 first_within n x None none = omega arith
 first_within n x (Some i) found = omega arith
 
+number : (o : Option ℕ) → unwrap_or o 0 ≡ number_in o
+number None = refl
+number (Some i) = refl
+
 behind : (c : goal.After-unwrap_or-behind) → FirstZero c.args.rows (λ k. get_or c.args.by.now ((c.args.d + k) % c.args.rows) 0) c.find.result
 behind c =
     let row : ℕ → ℕ = λ k. get_or c.args.by.now ((c.args.d + k) % c.args.rows) 0 in
@@ -31,4 +35,4 @@ overflow_add-result c = let l = first_within _ _ _ (behind c) in omega (arith, c
 
 pub returns : goal.returns
 unfolding untaken_from
-returns c = let found = c.unwrap_or-behind.ensures ∙ ap number_in (is_first _ _ _ (behind c)) in cc
+returns c = let found = c.unwrap_or-behind.ensures ∙ number c.find.result ∙ ap number_in (is_first _ _ _ (behind c)) in cc
