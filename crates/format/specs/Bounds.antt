@@ -1,5 +1,5 @@
 -- What the bounds of a job say of its answer.
-use Rattle.std.specs.Prelude.{ℕ, zero, suc, ◌+◌, ◌*◌, ◌≤◌, ◌<◌, cond, ltb, get_or}
+use Rattle.std.specs.Prelude.{ℕ, zero, suc, ◌+◌, ◌*◌, ◌≤◌, ◌<◌, max, get_or}
 use Rattle.field.specs.Primes.{modulus_of}
 use Rattle.format.specs.declared.Bounds.{Bounds}
 
@@ -14,7 +14,7 @@ numerator_bound_of b i = get_or b.numerators i 0
 -- the largest of the first n outputs' bounds, 0 where n is 0
 unfoldable pub largest_bound : Bounds → ℕ → ℕ
 largest_bound b zero = 0
-largest_bound b (suc i) = cond (ltb (largest_bound b i) (numerator_bound_of b i)) (numerator_bound_of b i) (largest_bound b i)
+largest_bound b (suc i) = max (largest_bound b i) (numerator_bound_of b i)
 
 -- how many coefficients the first n outputs have: "each fi takes its own bound plus 1 coefficients"
 unfoldable pub numerator_count : Bounds → ℕ → ℕ

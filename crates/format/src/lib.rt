@@ -1,9 +1,9 @@
-// What a job's header fixes, its bounds, and what a call answers: refusals, outcomes and reports.
+// What a job's header fixes, its bounds, and what a call answers: refusals, recoveries and reports.
 #![tactic(auto)]
 
-ghost use Rattle.std.specs.Prelude.{◌≤◌, ◌<◌, cond, ◌≡◌, ltb};
+ghost use Rattle.std.specs.Prelude.{◌≤◌, ◌<◌, ◌≡◌};
 ghost use Rattle.format.specs.Bounds.{numerator_bound_of, largest_bound, answer_length_of, FitsPolynomials};
-ghost use Rattle.format.specs.Outcomes.{refusal_number, report_of};
+ghost use Rattle.format.specs.Outcomes.{refusal_number, report_of, check_report_of, writing_report_of};
 
 use field::Prime;
 
@@ -16,15 +16,6 @@ pub struct Bounds {
     pub numerators: [usize; 4],
     pub dg: usize,
     pub errors: usize,
-}
-
-fn larger(a: usize, b: usize) -> usize
-    ensures { result ≡ cond (ltb a b) b a }
-{
-    if a < b {
-        return b;
-    }
-    a
 }
 
 impl Bounds {
@@ -41,9 +32,9 @@ impl Bounds {
         requires { n ≤ 4 }
         ensures { result ≡ largest_bound self n }
     {
-        let mut largest = 0;
+        let mut largest: usize = 0;
         for i in 0..n {
-            largest = larger(largest, self.numerator_bound(i));
+            largest = largest.max(self.numerator_bound(i));
         }
         largest
     }
@@ -62,9 +53,12 @@ impl Bounds {
     }
 }
 
+// The most bytes of an answer: a word, and for four outputs of degree 30 at most over a constant g, 4 * 31 + 1 coefficients of 16 bits.
+pub const LONGEST_ANSWER: usize = 254;
+
 // The refusals in the order of their numbers: the eight of paper 01's table, then those of paper 02. A job is never refused with SpareBit, which
 // stays for formats without the longer header, and a recovery gives of the later ones AddedHeader and TooFewSpeaking alone.
-#[derive(Clone, Copy)]
+#[derive(Clone, Copy, Debug, PartialEq, Eq)]
 pub enum Reason {
     TooShort,
     SpareBit,
@@ -80,39 +74,63 @@ pub enum Reason {
     TooFewSpeaking,
 }
 
-// What a call answers. Accepted is for use between the crates: the reader's answer to a well-formed job, the solver's where there is an answer.
-// Recovery never gives it.
-#[derive(Clone, Copy)]
-pub enum Outcome {
-    Accepted,
-    Recovered { bytes: u32, wrong: u32 },
-    Refused { reason: Reason, row: u32 },
-}
-
 // The refusal's number in the papers.
-pub fn refusal_number(reason: Reason) -> u32
-    ensures { result ≡ refusal_number reason }
-{
-    match reason {
-        Reason::TooShort => 1,
-        Reason::SpareBit => 2,
-        Reason::ByteCount => 3,
-        Reason::TooFewRows => 4,
-        Reason::OutOfRange => 5,
-        Reason::RepeatedPoint => 6,
-        Reason::AreaTooShort => 7,
-        Reason::NoAnswer => 8,
-        Reason::TooManyRows => 9,
-        Reason::NotReduced => 10,
-        Reason::AddedHeader => 11,
-        Reason::TooFewSpeaking => 12,
+impl From<Reason> for u32 {
+    ghost from_gives = { λ reason n. n ≡ refusal_number reason };
+
+    fn from(reason: Reason) -> u32 {
+        match reason {
+            Reason::TooShort => 1,
+            Reason::SpareBit => 2,
+            Reason::ByteCount => 3,
+            Reason::TooFewRows => 4,
+            Reason::OutOfRange => 5,
+            Reason::RepeatedPoint => 6,
+            Reason::AreaTooShort => 7,
+            Reason::NoAnswer => 8,
+            Reason::TooManyRows => 9,
+            Reason::NotReduced => 10,
+            Reason::AddedHeader => 11,
+            Reason::TooFewSpeaking => 12,
+        }
     }
 }
 
-// An outcome in the paper's numbers: the refusal (0 where none), the row it names, the bytes written, the wrong rows. Callers in C get it as
+// Why a call is refused, and the row that the refusal speaks of, 0 where it speaks of none.
+#[derive(Clone, Copy, Debug, PartialEq, Eq)]
+pub struct Refusal {
+    pub reason: Reason,
+    pub row: u32,
+}
+
+impl Refusal {
+    pub fn new(reason: Reason, row: u32) -> Refusal
+        ensures { result ≡ record { reason = reason; row = row } }
+    {
+        Refusal { reason, row }
+    }
+}
+
+// A refusal that speaks of no row.
+impl From<Reason> for Refusal {
+    ghost from_gives = { λ reason e. e ≡ record { reason = reason; row = 0 } };
+
+    fn from(reason: Reason) -> Refusal {
+        Refusal::new(reason, 0)
+    }
+}
+
+// What a recovery did: the bytes that it wrote, and how many rows are wrong.
+#[derive(Clone, Copy, Debug, PartialEq, Eq)]
+pub struct Recovered {
+    pub bytes: u32,
+    pub wrong: u32,
+}
+
+// A recovery in the papers' numbers: the refusal (0 where none), the row it names, the bytes written, the wrong rows. Callers in C get it as
 // it stands here.
 #[repr(C)]
-#[derive(Clone, Copy)]
+#[derive(Clone, Copy, Debug, PartialEq, Eq)]
 pub struct Report {
     pub refusal: u32,
     pub row: u32,
@@ -120,46 +138,61 @@ pub struct Report {
     pub wrong: u32,
 }
 
-pub fn reported(outcome: Outcome) -> Report
-    ensures { result ≡ report_of outcome }
-{
-    match outcome {
-        Outcome::Accepted => Report {
-            refusal: 0,
-            row: 0,
-            written: 0,
-            wrong: 0,
-        },
-        Outcome::Recovered { bytes, wrong } => Report {
-            refusal: 0,
-            row: 0,
-            written: bytes,
-            wrong: wrong,
-        },
-        Outcome::Refused { reason, row } => {
-            let refusal = refusal_number(reason);
-            Report {
-                refusal: refusal,
+impl From<Result<Recovered, Refusal>> for Report {
+    ghost from_gives = { λ recovery report. report ≡ report_of recovery };
+
+    fn from(recovery: Result<Recovered, Refusal>) -> Report {
+        match recovery {
+            Ok(Recovered { bytes, wrong }) => Report {
+                refusal: 0,
+                row: 0,
+                written: bytes,
+                wrong: wrong,
+            },
+            Err(Refusal { reason, row }) => Report {
+                refusal: u32::from(reason),
                 row: row,
                 written: 0,
                 wrong: 0,
-            }
+            },
         }
     }
 }
 
-// What a call answers that writes an area and recovers nothing.
-#[derive(Clone, Copy)]
-pub enum Writing {
-    Written { bytes: u32 },
-    Refused { reason: Reason, row: u32 },
+// What a check tells, as a recovery of no bytes.
+impl From<Result<(), Refusal>> for Report {
+    ghost from_gives = { λ check report. report ≡ check_report_of check };
+
+    fn from(check: Result<(), Refusal>) -> Report {
+        Report::from(check.map(|()| Recovered { bytes: 0, wrong: 0 }))
+    }
 }
 
-// The same in the papers' numbers: the refusal (0 where none), the row it names, the bytes written. Callers in C get it as it stands here.
+// The same of a call that writes an area and recovers nothing: the refusal (0 where none), the row it names, the bytes written. Callers in C
+// get it as it stands here.
 #[repr(C)]
-#[derive(Clone, Copy)]
+#[derive(Clone, Copy, Debug, PartialEq, Eq)]
 pub struct WritingReport {
     pub refusal: u32,
     pub row: u32,
     pub written: u32,
+}
+
+impl From<Result<u32, Refusal>> for WritingReport {
+    ghost from_gives = { λ writing report. report ≡ writing_report_of writing };
+
+    fn from(writing: Result<u32, Refusal>) -> WritingReport {
+        match writing {
+            Ok(written) => WritingReport {
+                refusal: 0,
+                row: 0,
+                written: written,
+            },
+            Err(refusal) => WritingReport {
+                refusal: u32::from(refusal.reason),
+                row: refusal.row,
+                written: 0,
+            },
+        }
+    }
 }

@@ -7,11 +7,12 @@ use mathlib.Core.Path.{◌≡◌, refl}
 use native.Mathlib.Omega.{arith}
 use borrow.Author.Tests.{le-leb, eqb-true, not-false}
 use lib.Dec.{ltb, leb, eqb}
+use Rattle.std.specs.Prelude.{Result, Ok}
 use Rattle.lists.proofs.Order.{lt_or_ge}
 use Rattle.lists.proofs.Truth.{clash, or-false}
 use Rattle.format.specs.declared.Reason.TheVariants.{TooShort, AddedHeader}
-use Rattle.format.specs.declared.Outcome.{Outcome}
-use Rattle.format.specs.declared.Outcome.TheVariants.{Accepted, Refused}
+use Rattle.format.specs.declared.Refusal.{Refusal}
+use Rattle.format.specs.Outcomes.{refused}
 use Rattle.format.specs.Bounds.{numerator_bound_of, largest_bound}
 use Rattle.format.proofs.Sizes.{largest_above}
 use Rattle.cursor.proofs.Fields.{field_below}
@@ -66,15 +67,15 @@ bound_within_df s unbroken i = by (short_or_longer s) (lt_or_ge i 4) (lt_or_ge i
     by (inr longer) (inl l) (inr past) = rw (absent_zero s unbroken longer i l past) (omega arith)
 
 -- tests 1 and 11, a and b, and what later ones say
-abbrev pub two_tests : (a b : Bool) → Outcome → Outcome
-two_tests a b later = cond a (Refused TooShort 0) (cond b (Refused AddedHeader 0) later)
+abbrev pub two_tests : (a b : Bool) → Result (Unit {0}) Refusal → Result (Unit {0}) Refusal
+two_tests a b later = cond a (refused TooShort 0) (cond b (refused AddedHeader 0) later)
 
-pub two_refused : (a b : Bool) (later : Outcome) → (two_tests a b Accepted ≡ Accepted → ⊥) → two_tests a b Accepted ≡ two_tests a b later
-two_refused true b later refused = refl
-two_refused false true later refused = refl
-two_refused false false later refused = absurd (refused refl)
+pub two_refused : (a b : Bool) (later : Result (Unit {0}) Refusal) → (two_tests a b (Ok tt) ≡ Ok tt → ⊥) → two_tests a b (Ok tt) ≡ two_tests a b later
+two_refused true b later other = refl
+two_refused false true later other = refl
+two_refused false false later other = absurd (other refl)
 
-pub two_passed : (a b : Bool) (later : Outcome) → two_tests a b Accepted ≡ Accepted → later ≡ two_tests a b later
+pub two_passed : (a b : Bool) (later : Result (Unit {0}) Refusal) → two_tests a b (Ok tt) ≡ Ok tt → later ≡ two_tests a b later
 two_passed true b later e = absurd (clash cc)
 two_passed false true later e = absurd (clash cc)
 two_passed false false later e = refl

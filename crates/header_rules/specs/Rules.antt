@@ -1,9 +1,9 @@
 -- Paper 01's refusal 1 and paper 02's refusal 11, item 5: what the header alone decides. s holds the bytes that it begins.
-use Rattle.std.specs.Prelude.{ℕ, ◌%◌, Bool, cond, not, ◌&&◌, ◌||◌, List, ltb, leb, eqb, length}
+use Rattle.std.specs.Prelude.{ℕ, ◌%◌, Bool, cond, not, ◌&&◌, ◌||◌, List, ltb, leb, eqb, length, Result, Ok}
 use Rattle.format.specs.declared.Bounds.{Bounds}
 use Rattle.format.specs.declared.Reason.TheVariants.{TooShort, AddedHeader}
-use Rattle.format.specs.declared.Outcome.{Outcome}
-use Rattle.format.specs.declared.Outcome.TheVariants.{Accepted, Refused}
+use Rattle.format.specs.declared.Refusal.{Refusal}
+use Rattle.format.specs.Outcomes.{refused}
 use Rattle.format.specs.Bounds.{numerator_bound_of, largest_bound}
 use Rattle.lists.specs.Search.{any_below}
 use Rattle.header.specs.declared.Header.{Header}
@@ -28,9 +28,9 @@ breaks_rule h =
 abbrev pub added_header_broken : List ℕ → Bool
 added_header_broken s = breaks_rule (header_of s)
 
--- the first of tests 1 and 11 that applies to so many bytes that begin with a header, and where neither does what the later ones say
-abbrev pub rules_then : (bytes : ℕ) → Header → Outcome → Outcome
-rules_then bytes h later = cond (ltb bytes h.length) (Refused TooShort 0) (cond (breaks_rule h) (Refused AddedHeader 0) later)
+-- refused by the first of tests 1 and 11 that applies to so many bytes that begin with a header, and where neither does what the later ones say
+abbrev pub rules_then : (bytes : ℕ) → Header → Result (Unit {0}) Refusal → Result (Unit {0}) Refusal
+rules_then bytes h later = cond (ltb bytes h.length) (refused TooShort 0) (cond (breaks_rule h) (refused AddedHeader 0) later)
 
-abbrev pub rules_outcome_of : (bytes : ℕ) → Header → Outcome
-rules_outcome_of bytes h = rules_then bytes h Accepted
+abbrev pub rules_outcome_of : (bytes : ℕ) → Header → Result (Unit {0}) Refusal
+rules_outcome_of bytes h = rules_then bytes h (Ok tt)

@@ -5,7 +5,7 @@ ghost use Rattle.std.specs.Prelude.{◌≤◌, ◌≡◌};
 ghost use Rattle.header.specs.Header.{FitsHeader};
 ghost use Rattle.header_rules.specs.Rules.{bounds_absent, breaks_rule, rules_outcome_of};
 
-use format::{Bounds, Outcome, Reason};
+use format::{Bounds, Reason, Refusal};
 use header::Header;
 
 // Whether an output that does not exist has a bound other than 0.
@@ -32,22 +32,16 @@ fn breaks_rule(h: Header) -> bool
     (h.flags % 2048 != 0) | bounds_absent(b) | (h.df != b.largest_bound(b.outputs))
 }
 
-// The first of tests 1 and 11 that applies to so many bytes that begin with this header.
-pub fn check_rules(bytes: usize, header: Header) -> Outcome
+// Refuses so many bytes that begin with this header by the first of tests 1 and 11 that applies.
+pub fn check_rules(bytes: usize, header: Header) -> Result<(), Refusal>
     requires { FitsHeader header }
     ensures { result ≡ rules_outcome_of bytes header }
 {
     if bytes < header.length {
-        return Outcome::Refused {
-            reason: Reason::TooShort,
-            row: 0,
-        };
+        return Err(Reason::TooShort.into());
     }
     if breaks_rule(header) {
-        return Outcome::Refused {
-            reason: Reason::AddedHeader,
-            row: 0,
-        };
+        return Err(Reason::AddedHeader.into());
     }
-    Outcome::Accepted
+    Ok(())
 }

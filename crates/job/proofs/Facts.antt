@@ -9,19 +9,17 @@ use native.Mathlib.Omega.{arith}
 use borrow.Author.Tests.{leb-false, eqb-false, eqb-true, ltb-false, not-false, lt-leb, ne_eqb, eq-eqb, le-ltb}
 use lib.Dec.{eqb, leb}
 use lib.ListN.{length}
+use Rattle.std.specs.Prelude.{Option, Some, None, Result, Ok}
+use Rattle.format.specs.declared.Refusal.{Refusal}
 use Rattle.lists.proofs.Truth.{clash, or-false}
 use Rattle.field.specs.Primes.{modulus_of}
 use Rattle.format.specs.Bounds.{numerator_bound_of, answer_length_of}
 use Rattle.format.specs.declared.Reason.{Reason}
 use Rattle.format.specs.declared.Reason.TheVariants.{TooShort, AddedHeader, ByteCount, TooFewRows, OutOfRange, TooFewSpeaking, RepeatedPoint, AreaTooShort}
-use Rattle.format.specs.declared.Outcome.{Outcome}
-use Rattle.format.specs.declared.Outcome.TheVariants.{Accepted, Refused}
 use Rattle.header.specs.Header.{bounds_of, header_of, job_length_of, rows_needed_of, FitsFields}
 use Rattle.header.proofs.Fields.{fits_fields}
 use Rattle.header_rules.specs.Rules.{too_short, added_header_broken}
 use Rattle.header_rules.proofs.Rules.{bound_within_df}
-use Rattle.lists.specs.declared.Found.{Found}
-use Rattle.lists.specs.declared.Found.TheVariants.{At, Nothing}
 use Rattle.lists.specs.Search.{first_below, if_holds, is_found}
 use Rattle.rows.specs.Rows.{job_point, job_value}
 use Rattle.marked_rows.specs.Marks.{mark_at, is_unmarked, speaking_count}
@@ -29,8 +27,9 @@ use Rattle.lists.proofs.Order.{lt_or_ge}
 use Rattle.lists.proofs.FirstBelow.{at_not_nothing, none_passes, any_passes, none_below}
 use Rattle.job.proofs.Deciding.{past_4, past_6, accepted}
 use Rattle.job.specs.Refusals.{byte_count_differs, too_few_rows, out_of_range, too_few_speaking, repeated_point, area_too_short, refuse, outcome_of_rows, outcome_of, WellFormed}
+use Rattle.format.specs.Outcomes.{refused}
 
-module _ (s : List ℕ) (not-5 : first_below (bounds_of s).rows (out_of_range s) ≡ Nothing) where
+module _ (s : List ℕ) (not-5 : first_below (bounds_of s).rows (out_of_range s) ≡ None) where
   in_range : (r : ℕ) → r < (bounds_of s).rows → out_of_range s r ≡ false
   in_range = none_passes (out_of_range s) (bounds_of s).rows not-5
 
@@ -43,7 +42,7 @@ module _ (s : List ℕ) (not-5 : first_below (bounds_of s).rows (out_of_range s)
       let range = (or-false (leb p (job_point s r)) _ (in_range r l)).1 in
       leb-false _ _ (any_passes (λ j. leb p (job_value s r j)) (bounds_of s).outputs (rw unmarked at range) i m)
 
-module _ (s : List ℕ) (not-6 : first_below (bounds_of s).rows (repeated_point s) ≡ Nothing) where
+module _ (s : List ℕ) (not-6 : first_below (bounds_of s).rows (repeated_point s) ≡ None) where
   earlier_differs : (q r : ℕ) → q < r → r < (bounds_of s).rows → job_point s q ≡ job_point s r → ⊥
   earlier_differs q r l m =
       eqb-false _ _
@@ -68,15 +67,15 @@ pub record WellFormedFacts (s : List ℕ) (area : ℕ) : Type 0 where
   pub distinct : (q r : ℕ) → q < (bounds_of s).rows → r < (bounds_of s).rows → job_point s q ≡ job_point s r → q ≡ r
   pub enough_area : answer_length_of (bounds_of s) ≤ area
 
-pub refused_not_accepted : {reason : Reason} {row : ℕ} → Refused reason row ≡ Accepted → ⊥
+pub refused_not_accepted : {reason : Reason} {row : ℕ} → ◌≡◌ {A = Result (Unit {0}) Refusal} (refused reason row) (Ok tt) → ⊥
 refused_not_accepted e = clash cc
 
 -- a test that leaves the job accepted found nothing, and so did the later ones
-pub passed : (reason : Reason) (f : Found) (later : Outcome) → refuse reason f later ≡ Accepted → (f ≡ Nothing) × (later ≡ Accepted)
-passed reason (At row) later e = absurd (refused_not_accepted e)
-passed reason Nothing later e = (refl, e)
+pub passed : (reason : Reason) (f : Option ℕ) (later : Result (Unit {0}) Refusal) → refuse reason f later ≡ Ok tt → (f ≡ None) × (later ≡ Ok tt)
+passed reason (Some row) later e = absurd (refused_not_accepted e)
+passed reason None later e = (refl, e)
 
-pub does_not_hold : (b : Bool) → if_holds b 0 ≡ Nothing → b ≡ false
+pub does_not_hold : (b : Bool) → if_holds b 0 ≡ None → b ≡ false
 does_not_hold true e = absurd (at_not_nothing e)
 does_not_hold false e = refl
 
@@ -116,7 +115,7 @@ module _ (s : List ℕ) (area : ℕ) where
       past_4 s area (le-ltb (length s) (header_of s).length (omega (arith, h.byte_count))) h.rules
       (ap not (eq-eqb _ _ h.byte_count)) (le-ltb _ _ h.enough_rows)
       ∙ accepted s area (le-ltb _ _ h.enough_area)
-      (past_6 s Accepted (none_below (out_of_range s) _ in_range) (le-ltb _ _ h.enough_speaking) (none_below (repeated_point s) _ new-point))
+      (past_6 s (Ok tt) (none_below (out_of_range s) _ in_range) (le-ltb _ _ h.enough_speaking) (none_below (repeated_point s) _ new-point))
     where
       when_true : (a b : Bool) → (a ≡ true → b ≡ false) → (a && b) ≡ false
       when_true true b h = h refl

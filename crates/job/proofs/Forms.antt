@@ -7,14 +7,12 @@ use Prim.Native.Nat.{ℕ, ◌≤◌, ◌<◌}
 use native.Mathlib.Nat.{le_refl}
 use native.Mathlib.Omega.{arith}
 use borrow.Author.Tests.{le-ltb}
+use Rattle.std.specs.Prelude.{Option, Some, None, Result, Ok}
+use Rattle.format.specs.declared.Refusal.{Refusal}
 use Rattle.format.specs.Bounds.{answer_length_of}
 use Rattle.format.specs.declared.Reason.{Reason}
 use Rattle.format.specs.declared.Reason.TheVariants.{TooShort, AddedHeader, ByteCount, TooFewRows, OutOfRange, TooFewSpeaking, RepeatedPoint, AreaTooShort}
-use Rattle.format.specs.declared.Outcome.{Outcome}
-use Rattle.format.specs.declared.Outcome.TheVariants.{Accepted, Refused}
-use Rattle.format.specs.Outcomes.{refusal_number, report_of}
-use Rattle.lists.specs.declared.Found.{Found}
-use Rattle.lists.specs.declared.Found.TheVariants.{At, Nothing}
+use Rattle.format.specs.Outcomes.{refusal_number, check_report_of, refused}
 use Rattle.lists.specs.Search.{if_holds, first_below}
 use Rattle.header.specs.Header.{bounds_of}
 use Rattle.header_rules.specs.Rules.{too_short, added_header_broken}
@@ -23,14 +21,14 @@ use Rattle.job.specs.Refusals.{byte_count_differs, too_few_rows, out_of_range, t
 use Rattle.job.proofs.Laws.{answer_length_most}
 
 -- tests either refuse, whatever the later ones say and for one of the given reasons, or answer as the later ones do
-abbrev pub Decisive : (Given : Reason → Type 0) → (Outcome → Outcome) → Type 0
+abbrev pub Decisive : (Given : Reason → Type 0) → (Result (Unit {0}) Refusal → Result (Unit {0}) Refusal) → Type 0
 Decisive Given tests =
-    ((reason : Reason) × (row : ℕ) × Given reason × ((later : Outcome) → tests later ≡ Refused reason row)) ⊎ ((later : Outcome) → tests later ≡ later)
+    ((reason : Reason) × (row : ℕ) × Given reason × ((later : Result (Unit {0}) Refusal) → tests later ≡ refused reason row)) ⊎ ((later : Result (Unit {0}) Refusal) → tests later ≡ later)
 
-pub refuse_decisive : (Given : Reason → Type 0) (reason : Reason) (f : Found) (tests : Outcome → Outcome) → Given reason → Decisive Given tests
+pub refuse_decisive : (Given : Reason → Type 0) (reason : Reason) (f : Option ℕ) (tests : Result (Unit {0}) Refusal → Result (Unit {0}) Refusal) → Given reason → Decisive Given tests
     → Decisive Given (λ later. refuse reason f (tests later))
-refuse_decisive Given reason (At row) tests given d = inl (reason, row, given, λ later. refl)
-refuse_decisive Given reason Nothing tests given d = d
+refuse_decisive Given reason (Some row) tests given d = inl (reason, row, given, λ later. refl)
+refuse_decisive Given reason None tests given d = d
 
 -- the number of a refusal before m, or 11 or 12; 2 is none
 abbrev pub Given : (m n : ℕ) → Type 0
@@ -42,13 +40,13 @@ OfForm reason = Given 7 (refusal_number reason)
 
 module _ (s : List ℕ) where
   -- test 7 alone
-  abbrev pub last_test : ℕ → Outcome
-  last_test area = refuse AreaTooShort (if_holds (area_too_short s area) 0) Accepted
+  abbrev pub last_test : ℕ → Result (Unit {0}) Refusal
+  last_test area = refuse AreaTooShort (if_holds (area_too_short s area) 0) (Ok tt)
 
   -- one of them refuses the job whatever the area, or test 7 decides
   abbrev pub ByForm : Type 0
   ByForm =
-      ((reason : Reason) × (row : ℕ) × OfForm reason × ((area : ℕ) → outcome_of s area ≡ Refused reason row))
+      ((reason : Reason) × (row : ℕ) × OfForm reason × ((area : ℕ) → outcome_of s area ≡ refused reason row))
       ⊎ ((area : ℕ) → outcome_of s area ≡ last_test area)
 
   first_decisive : Decisive OfForm (first_tests s)
@@ -69,19 +67,19 @@ module _ (s : List ℕ) where
       by (inl d) = inl (d.0, d.1, d.2, λ area. d.3 (last_test area))
       by (inr d) = inr (λ area. d (last_test area))
 
-  pub long_enough : (area : ℕ) → answer_length_of (bounds_of s) ≤ area → last_test area ≡ Accepted
+  pub long_enough : (area : ℕ) → answer_length_of (bounds_of s) ≤ area → last_test area ≡ Ok tt
   long_enough area l = simp (le-ltb area (answer_length_of (bounds_of s)) l)
 
   -- no test gives another outcome
-  pub accepted_or_refused : (area : ℕ) → (outcome_of s area ≡ Accepted) ⊎ ((reason : Reason) × (row : ℕ) × (outcome_of s area ≡ Refused reason row))
+  pub accepted_or_refused : (area : ℕ) → (outcome_of s area ≡ Ok tt) ⊎ ((reason : Reason) × (row : ℕ) × (outcome_of s area ≡ refused reason row))
   accepted_or_refused area = by by_form
     where
-      last : (short : Bool) → outcome_of s area ≡ refuse AreaTooShort (if_holds short 0) Accepted
-          → (outcome_of s area ≡ Accepted) ⊎ ((reason : Reason) × (row : ℕ) × (outcome_of s area ≡ Refused reason row))
+      last : (short : Bool) → outcome_of s area ≡ refuse AreaTooShort (if_holds short 0) (Ok tt)
+          → (outcome_of s area ≡ Ok tt) ⊎ ((reason : Reason) × (row : ℕ) × (outcome_of s area ≡ refused reason row))
       last true e = inr (AreaTooShort, 0, e)
       last false e = inl e
 
-      by : ByForm → (outcome_of s area ≡ Accepted) ⊎ ((reason : Reason) × (row : ℕ) × (outcome_of s area ≡ Refused reason row))
+      by : ByForm → (outcome_of s area ≡ Ok tt) ⊎ ((reason : Reason) × (row : ℕ) × (outcome_of s area ≡ refused reason row))
       by (inl refused) = inr (refused.0, refused.1, refused.3 area)
       by (inr passed) = last (area_too_short s area) (passed area)
 
@@ -93,8 +91,8 @@ module _ (s : List ℕ) where
   -- a check for form and the tests with an area refuse the job alike, with one of them; or the check accepts it, and test 7 decides
   abbrev pub Alike : ℕ → Type 0
   Alike area =
-      ((reason : Reason) × (row : ℕ) × OfForm reason × (form_outcome_of s ≡ Refused reason row) × (outcome_of s area ≡ Refused reason row))
-      ⊎ ((form_outcome_of s ≡ Accepted) × (outcome_of s area ≡ last_test area))
+      ((reason : Reason) × (row : ℕ) × OfForm reason × (form_outcome_of s ≡ refused reason row) × (outcome_of s area ≡ refused reason row))
+      ⊎ ((form_outcome_of s ≡ Ok tt) × (outcome_of s area ≡ last_test area))
 
   pub check_alike : (area : ℕ) → Alike area
   check_alike area = by by_form
@@ -118,22 +116,22 @@ module _ (s : List ℕ) where
   form_with_room = form-outcome ∙ sym (form-same 254 (le_refl 254))
 
   -- a refusal before 7 is given with every area
-  pub form-refused : (area : ℕ) → 0 < (report_of (outcome_of s area)).refusal → ((report_of (outcome_of s area)).refusal ≡ 7 → ⊥)
+  pub form-refused : (area : ℕ) → 0 < (check_report_of (outcome_of s area)).refusal → ((check_report_of (outcome_of s area)).refusal ≡ 7 → ⊥)
       → outcome_of s area ≡ outcome_of s (answer_length_of (bounds_of s))
   form-refused area positive other = by by_form
     where
-      seven : (short : Bool) → outcome_of s area ≡ refuse AreaTooShort (if_holds short 0) Accepted → ⊥
-      seven true e = other (ap (λ o. (report_of o).refusal) e)
-      seven false e = let n = ap (λ o. (report_of o).refusal) e in omega arith
+      seven : (short : Bool) → outcome_of s area ≡ refuse AreaTooShort (if_holds short 0) (Ok tt) → ⊥
+      seven true e = other (ap (λ o. (check_report_of o).refusal) e)
+      seven false e = let n = ap (λ o. (check_report_of o).refusal) e in omega arith
 
       by : ByForm → outcome_of s area ≡ outcome_of s (answer_length_of (bounds_of s))
       by (inl refused) = refused.3 area ∙ sym (refused.3 (answer_length_of (bounds_of s)))
       by (inr passed) = absurd (seven (area_too_short s area) (passed area))
 
   -- and a job that passes test 7 passes it with every area that is long enough
-  pub form_accepted : (area : ℕ) → outcome_of s area ≡ Accepted → outcome_of s (answer_length_of (bounds_of s)) ≡ Accepted
+  pub form_accepted : (area : ℕ) → outcome_of s area ≡ Ok tt → outcome_of s (answer_length_of (bounds_of s)) ≡ Ok tt
   form_accepted area wf = by by_form
     where
-      by : ByForm → outcome_of s (answer_length_of (bounds_of s)) ≡ Accepted
+      by : ByForm → outcome_of s (answer_length_of (bounds_of s)) ≡ Ok tt
       by (inl refused) = refused.3 (answer_length_of (bounds_of s)) ∙ sym (refused.3 area) ∙ wf
       by (inr passed) = passed (answer_length_of (bounds_of s)) ∙ long_enough _ (le_refl _)

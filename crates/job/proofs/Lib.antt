@@ -7,3 +7,4 @@ pub mod Laws
 pub mod Examples
 pub mod Forms
 pub mod Numbers
+pub mod Reading

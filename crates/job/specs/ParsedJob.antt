@@ -1,31 +1,26 @@
 -- What the reader returns.
-use Rattle.std.specs.Prelude.{ℕ, List, replicate}
-use Rattle.field.specs.declared.Prime.TheVariants.{P7}
-use Rattle.format.specs.declared.Bounds.{Bounds}
-use Rattle.format.specs.declared.Outcome.{Outcome}
-use Rattle.format.specs.declared.Outcome.TheVariants.{Accepted, Recovered, Refused}
-use Rattle.job.specs.declared.parsed_job.ParsedJob.{ParsedJob}
+use Rattle.std.specs.Prelude.{ℕ, List, Result, Ok, Err}
+use Rattle.format.specs.declared.Refusal.{Refusal}
 use Rattle.header.specs.Header.{bounds_of}
+use Rattle.marked_rows.specs.declared.Table.{Table}
 use Rattle.marked_rows.specs.Marks.{speaking_count}
 use Rattle.marked_rows.specs.Table.{job_points, job_weights, job_values}
+use Rattle.job.specs.declared.parsed_job.ParsedJob.{ParsedJob}
 use Rattle.job.specs.Refusals.{outcome_of}
 
--- prime code 0, and 0 everywhere else
-abbrev pub no_bounds : Bounds
-no_bounds = record { prime = P7; outputs = 0; rows = 0; numerators = replicate 4 0; dg = 0; errors = 0 }
+-- the rows of the job s by their conditions, and how many of them speak
+abbrev pub job_table : List ℕ → Table
+job_table s = record { points = job_points s; weights = job_weights s; values = job_values s; speaking = speaking_count s }
 
--- a refused job: zeros beside the outcome, whatever the bytes say
-abbrev pub refused_job : Outcome → ParsedJob
-refused_job outcome =
-    record { outcome = outcome; bounds = no_bounds; points = replicate 32 0; weights = replicate 32 0; values = replicate 128 0; speaking = 0 }
+-- the header's fields and the rows, as the reader gives them where the job is accepted
+abbrev pub accepted_job : List ℕ → ParsedJob
+accepted_job s = record { bounds = bounds_of s; table = job_table s }
 
--- an outcome with the header's fields and the rows, where the job is accepted
-abbrev pub parsed_with : Outcome → List ℕ → ParsedJob
-parsed_with Accepted s =
-    record { outcome = Accepted; bounds = bounds_of s; points = job_points s; weights = job_weights s; values = job_values s; speaking = speaking_count s }
-parsed_with (Recovered bytes wrong) s = refused_job (Recovered bytes wrong)
-parsed_with (Refused reason row) s = refused_job (Refused reason row)
+-- a refusal as it stands, and the job where the tests accept it
+abbrev pub parsed_with : Result (Unit {0}) Refusal → List ℕ → Result ParsedJob Refusal
+parsed_with (Ok _) s = Ok (accepted_job s)
+parsed_with (Err e) s = Err e
 
 -- the bytes s as a job where the answer area has so many bytes
-abbrev pub parsed_job_of : List ℕ → ℕ → ParsedJob
+abbrev pub parsed_job_of : List ℕ → ℕ → Result ParsedJob Refusal
 parsed_job_of s area = parsed_with (outcome_of s area) s

@@ -3,30 +3,21 @@ ghost use Rattle.std.specs.Prelude.{◌≡◌};
 ghost use Rattle.header.specs.Header.{FitsHeader};
 ghost use Rattle.job.specs.Form.{header_outcome_of};
 
-use format::{Outcome, Reason};
+use format::{Reason, Refusal};
 use header::{Header, job_length, rows_needed};
+use header_rules::check_rules;
 
-// The first that applies to so many bytes that begin with this header, in their order.
-pub fn check_header(bytes: usize, header: Header) -> Outcome
+// Refuses so many bytes that begin with this header by the first test that applies, in their order.
+pub fn check_header(bytes: usize, header: Header) -> Result<(), Refusal>
     requires { FitsHeader header }
     ensures { result ≡ header_outcome_of bytes header }
 {
-    let checked = header_rules::check_rules(bytes, header);
-    let Outcome::Accepted = checked else {
-        return checked;
-    };
+    check_rules(bytes, header)?;
     if bytes != job_length(header) {
-        return Outcome::Refused {
-            reason: Reason::ByteCount,
-            row: 0,
-        };
+        return Err(Reason::ByteCount.into());
     }
-    let bounds = header.bounds;
-    if bounds.rows < rows_needed(header) {
-        return Outcome::Refused {
-            reason: Reason::TooFewRows,
-            row: 0,
-        };
+    if header.bounds.rows < rows_needed(header) {
+        return Err(Reason::TooFewRows.into());
     }
-    Outcome::Accepted
+    Ok(())
 }

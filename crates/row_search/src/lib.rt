@@ -5,8 +5,6 @@ ghost use Rattle.std.specs.Prelude.{◌+◌, ◌*◌, ◌<◌, ◌≤◌, true, 
 ghost use Rattle.lists.specs.Counting.{count_below};
 ghost use Rattle.lists.specs.Search.{first_below, any_below, Distinct};
 
-use lists::Found;
-
 // Whether one of the values from place `from` on is p or more.
 fn value_out_of_range(values: &[u32; 128], from: usize, outputs: usize, p: u32) -> bool
     requires { (outputs ≤ 4) × (from + 4 ≤ 128) }
@@ -27,20 +25,20 @@ pub fn first_out_of_range(
     rows: usize,
     outputs: usize,
     p: u32,
-) -> Found
+) -> Option<u32>
     requires { (rows ≤ 31) × (outputs ≤ 4) }
     ensures { result ≡ first_below rows (λ r. leb p (get_or points.now r 0) || any_below outputs (λ i. leb p (get_or values.now (r * 4 + i) 0))) }
 {
     for r in 0..rows {
         let row = r as u32;
         if p <= points[r] {
-            return Found::At(row);
+            return Some(row);
         }
         if value_out_of_range(values, r * 4, outputs, p) {
-            return Found::At(row);
+            return Some(row);
         }
     }
-    Found::Nothing
+    None
 }
 
 // Whether the point of row r stands in an earlier row.
@@ -95,31 +93,31 @@ fn single(numbers: &[u32; 32], rows: usize) -> bool
 }
 
 // The first row whose point stands in an earlier row, each point compared with all earlier ones.
-fn first_repeated_by_pairs(points: &[u32; 32], rows: usize) -> Found
+fn first_repeated_by_pairs(points: &[u32; 32], rows: usize) -> Option<u32>
     requires { rows ≤ 31 }
     ensures { result ≡ first_below rows (λ r. any_below r (λ q. eqb (get_or points.now q 0) (get_or points.now r 0))) }
 {
     for r in 0..rows {
         let later = r as u32;
         if stands_earlier(points, r) {
-            return Found::At(later);
+            return Some(later);
         }
     }
-    Found::Nothing
+    None
 }
 
 // The first row whose point stands in an earlier row. That none does is seen more quickly where points rise; and where there are many, if the
 // places behind the rows hold no point.
-pub fn first_repeated(points: &[u32; 32], rows: usize) -> Found
+pub fn first_repeated(points: &[u32; 32], rows: usize) -> Option<u32>
     requires { rows ≤ 31 }
     ensures { result ≡ first_below rows (λ r. any_below r (λ q. eqb (get_or points.now q 0) (get_or points.now r 0))) }
 {
     if rise(points, rows) {
-        return Found::Nothing;
+        return None;
     }
     if 16 <= rows {
         if single(points, rows) {
-            return Found::Nothing;
+            return None;
         }
     }
     first_repeated_by_pairs(points, rows)

@@ -12,7 +12,7 @@ pub loop-i-preserved : goal.loop-i-preserved
 unfolding largest_bound
 loop-i-preserved c =
     let next : c.loop-i.i + 1 ≡ suc c.loop-i.i = omega arith in
-    (omega arith, rw next (c.larger-largest.ensures ∙ rw (c.numerator_bound.ensures, c.loop-i.invariant.1) refl))
+    (omega arith, rw next cc)
 
 pub returns : goal.returns
 returns c =
