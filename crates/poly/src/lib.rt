@@ -35,12 +35,10 @@ pub fn length(n: usize, a: Poly) -> usize
     requires { (n ≤ 32) × ((k : ℕ) → n ≤ k → get_or a.c k 0 ≡ 0) }
     ensures { (result ≡ length_of a.c) × (result ≤ n) }
 {
-    let mut i = n;
-    while 0 < i {
-        if a.c[i - 1] != 0 {
-            return i;
+    for i in (0..n).rev() {
+        if a.c[i] != 0 {
+            return i + 1;
         }
-        i -= 1;
     }
     0
 }

@@ -17,9 +17,6 @@ returns c = search rules
 pub overflow_mul-high : goal.overflow_mul-high
 overflow_mul-high c = omega (arith, product_of_halves {x = c.args.form} {y = c.args.a} (omega arith) (omega arith))
 
-pub overflow_mul-m : goal.overflow_mul-m
-overflow_mul-m c = omega (arith, product_of_halves {x = c.args.low} {y = c.args.a} (omega arith) (omega arith))
-
 pub overflow_mul-taken : goal.overflow_mul-taken
 overflow_mul-taken c = omega (arith, product_of_halves {x = c.args.low * c.args.a % 65536} {y = c.args.p} (omega arith) (omega arith))
 
