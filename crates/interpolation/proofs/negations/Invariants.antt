@@ -5,7 +5,7 @@ use Rattle.lists.proofs.Filling.{Filled}
 use Rattle.interpolation.proofs.negations.Given as goal
 
 abbrev pub invariant-loop-k : goal.invariant-loop-k
-invariant-loop-k l = (l.k ≤ l.rows) × Filled 32 (λ j. (0 + (l.p - get_or l.z j 0)) % l.p) (λ j. 0) l.k l.r.v
+invariant-loop-k l = (l.k ≤ l.rows) × Filled 32 (λ j. (0 + (l.p - get_or l.z j 0)) % l.p) (λ j. 0) l.k l.r
 
 abbrev pub decreases-loop-k : goal.decreases-loop-k
 decreases-loop-k l = l.rows - l.k
