@@ -55,6 +55,7 @@ impl PairArrays {
     }
 
     // The pair times (u - x).
+    #[inline(always)]
     fn advance(&mut self, m: &Modulus, r: RowStep, xs: &[u16; 32])
         requires { IsModulusOf r.prime m.now × Fits r × Stored (modulus_of r.prime) xs.now × Ready r self.old }
         ensures { Advanced r m.now xs.now self.old self.new }
@@ -125,6 +126,7 @@ fn leading(m: u16, c: u16, first: usize, second: usize) -> Option<Leader>
 }
 
 // The pair that leads is advanced, and the other freed of its discrepancy.
+#[inline(always)]
 fn exchange(m: &Modulus, r: RowStep, xs: &[u16; 32], lead: &mut PairArrays, other: &mut PairArrays)
     requires { IsModulusOf r.prime m.now × Fits r × Stored (modulus_of r.prime) xs.now × Ready r lead.old × Ready r other.old }
     ensures { Advanced r m.now xs.now lead.old lead.new × Freed r m.now lead.old other.old other.new }
