@@ -68,7 +68,7 @@ fn row(q: Prime, m: &Modulus, points: &[u32; 32], xs: &[u16; 32], rows: usize, k
     }
 }
 
-// Kept: a loop by index is vector code; an array's `map` moves each entry through an Option, and a job of 4 rows takes 1.4 times its time.
+// Kept, as in `negations`: a loop by index. It is vector code; an array's `map` moves each entry as an Option, and a job of 4 rows took 1.4 times as long.
 fn widened(a: &[u16; 32]) -> Poly
     ensures { result.c ≡ a.now }
 {

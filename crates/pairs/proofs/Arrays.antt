@@ -2,7 +2,6 @@
 use mathlib.Core.Path.{◌≡◌, ap, ap₂, ◌∙◌}
 use mathlib.Core.List.{List}
 use Prim.Native.Nat.{ℕ, ◌+◌, ◌-◌, ◌*◌, ◌/◌, ◌%◌, ◌≤◌, ◌<◌}
-use native.Mathlib.Nat.{mod-lt}
 use native.Mathlib.Omega.{arith}
 use lib.ListN.{get_or, length}
 use Rattle.field.specs.declared.Prime.{Prime}
@@ -16,7 +15,7 @@ use Rattle.poly.proofs.Bounds.{times_linear_past, bounded_times_linear, combinat
 use Rattle.lists.proofs.Tabulated.{length-tabulate}
 use Rattle.poly.proofs.Lists.{bounded_mono}
 use Rattle.pairs.specs.Pairs.{PairBounded}
-use Rattle.lanes.specs.Lanes.{groups_of, modulus_at, Constants, Inverses, Residues, replaced, combined_lane, linear_lane, difference_lane}
+use Rattle.lanes.specs.Lanes.{groups_of, Constants, Inverses, Residues, replaced, combined_lane, linear_lane, difference_lane}
 use Rattle.lanes.proofs.Changes.{replaced_inside}
 use Rattle.lanes_meaning.proofs.Meaning.{whole, stored_replaced, combined_lane_lem, linear_lane_lem, combined_below, difference_lane_lem, difference_below}
 use Rattle.pairs.specs.declared.stepping.PairState.{PairState}
@@ -43,17 +42,6 @@ module _ {q : Prime} {ps : List ℕ} (cs : Constants q ps) where
 
   stored_of : {a : List ℕ} → Residues ps a → Stored (modulus_of q) a
   stored_of h = record { size = h.size; below = λ k. rw cs.number at (h.below k) }
-
-  pub residues_held : {n : ℕ} {a : List ℕ} → Holds (modulus_of q) n a → Residues ps a
-  residues_held h = residues_of (record { size = h.size; below = h.bounded.residues })
-
-  pub form_below : (e : ℕ) {x : Factor} → x ≡ factor_of q e → x.form < modulus_at ps
-  form_below e {x} h = rw (ap (λ (f : Factor). f.form) h, cs.number) (mod-lt (e * 65536) (modulus_positive q))
-
-  -- what is asked for, to combine two arrays
-  pub combining : (start n x y : ℕ) {a b : List ℕ} {m c : Factor} → start ≤ n → n ≤ 32 → Residues ps a → Residues ps b → m ≡ factor_of q x → c ≡ factor_of q y
-      → (start ≤ n) × (n ≤ 32) × Residues ps a × Residues ps b × (m.form < modulus_at ps) × (c.form < modulus_at ps)
-  combining start n x y low few ra rb em ec = (low, few, ra, rb, form_below x em, form_below y ec)
 
   module _ {n : ℕ} {a : List ℕ} (ha : Holds (modulus_of q) n a) where
     -- (u - x) a
