@@ -27,7 +27,7 @@ loop-k-init c =
       first = record {
         held = record { left = one_held l; right = zero_held l };
         low = omega arith;
-        stored = record { size = c.told-weights; below = λ k. omega (arith, cond.weights_below k) };
+        stored = record { size = omega arith; below = λ k. omega (arith, cond.weights_below k) };
         kept = kept.0;
       };
       second = record { held = record { left = zero_held l; right = one_held l }; low = omega arith; stored = negated.1; kept = kept.1 };
