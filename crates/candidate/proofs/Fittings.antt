@@ -1,6 +1,5 @@
 -- Polynomials that keep to the bounds of a job, in candidates and in products.
 use mathlib.Core.Path.{◌≡◌, refl, sym, ap, subst, ◌∙◌}
-use mathlib.Core.Bool.{Bool, false}
 use mathlib.Core.List.{List, [], ◌∷◌}
 use Prim.Native.Nat.{ℕ, zero, suc, ◌+◌, ◌≤◌, ◌<◌}
 use native.Mathlib.Nat.{mod-lt}
@@ -15,6 +14,7 @@ use Rattle.field.proofs.Moduli.{modulus_positive}
 use Rattle.format.specs.declared.Bounds.{Bounds}
 use Rattle.format.specs.Bounds.{numerator_bound_of, prime_of}
 use Rattle.poly.specs.declared.Poly.{Poly}
+use Rattle.poly.specs.declared.Vector.{Vector}
 use Rattle.poly.specs.contracts.Poly.{the_row}
 use Rattle.poly.specs.Coefficients.{Bounded}
 use Rattle.poly.specs.Vectors.{zero_poly, coefficients_at}
@@ -22,9 +22,7 @@ use Rattle.poly.specs.Operations.{product_at, product_of}
 use Rattle.poly.proofs.Lists.{bounded_mono, bounded_zeros, bounded_tabulate}
 use Rattle.poly.proofs.Bounds.{zero_remainder}
 use Rattle.poly.proofs.Products.{terms, terms_after, sum_zeros, bounded_product}
-use Rattle.candidate.specs.declared.vector.Candidate.{Candidate}
 use Rattle.candidate.specs.Extensions.{Fitting}
-use Rattle.candidate.specs.Vector.{unsolvable_candidate}
 
 -- a times h keeps to a bound that the sum of their lengths keeps to, also where a is zero
 pub bounded_raised : {p la lh n : ℕ} {a h : List ℕ} → 0 < p → Bounded p la a → Bounded p lh h → (0 < la → la + lh ≤ n + 1) → Bounded p n (product_of p a h)
@@ -55,30 +53,25 @@ bounded_none p m zero j positive = bounded_zeros p m 0 positive
 bounded_none p m (suc n) zero positive = bounded_zeros p m 32 positive
 bounded_none p m (suc n) (suc j) positive = bounded_none p m n j positive
 
--- candidates that keep to the bounds
+-- vectors that keep to the bounds
 module _ (b : Bounds) where
-  pub fitting_none : (solvable : Bool) (g : Poly) → Bounded (prime_of b) (b.dg + 1) g.c
-      → Fitting b (record { solvable = solvable; g = g; f = replicate 4 zero_poly })
-  fitting_none solvable g bg = record {
+  pub fitting_none : (g : Poly) → Bounded (prime_of b) (b.dg + 1) g.c → Fitting b (record { g = g; f = replicate 4 zero_poly })
+  fitting_none g bg = record {
     size = refl;
     denominator = bg;
     numerators = λ j. bounded_none _ _ 4 j (modulus_positive b.prime);
   }
 
-  pub fitting_unsolvable : Fitting b unsolvable_candidate
-  unfolding unsolvable_candidate
-  fitting_unsolvable = fitting_none false zero_poly (bounded_zeros _ _ 32 (modulus_positive b.prime))
-
   -- another denominator, and another numerator of output j
-  pub fitting_set : {c : Candidate} → Fitting b c → (solvable : Bool) (g v : Poly) (j : ℕ) → j < 4
-      → Bounded (prime_of b) (b.dg + 1) g.c → Bounded (prime_of b) (numerator_bound_of b j + 1) v.c
-      → Fitting b (record { solvable = solvable; g = g; f = set c.f j v })
-  fitting_set {c} h solvable g v j l bg bv = record {
-    size = length-set c.f j v ∙ h.size;
+  pub fitting_set : {v : Vector} → Fitting b v → (g a : Poly) (j : ℕ) → j < 4
+      → Bounded (prime_of b) (b.dg + 1) g.c → Bounded (prime_of b) (numerator_bound_of b j + 1) a.c
+      → Fitting b (record { g = g; f = set v.f j a })
+  fitting_set {v} h g a j l bg ba = record {
+    size = length-set v.f j a ∙ h.size;
     denominator = bg;
     numerators = λ k. at_place k (ℕ_discrete k j);
   }
     where
-      at_place : (k : ℕ) → Dec (k ≡ j) → Bounded (prime_of b) (numerator_bound_of b k + 1) (coefficients_at (set c.f j v) k)
-      at_place k (yes same) = rw same (subst (Bounded _ _) (sym (set_same c.f j v (let e = h.size in omega arith))) bv)
-      at_place k (no other) = subst (Bounded _ _) (sym (set_other c.f j v k other)) (h.numerators k)
+      at_place : (k : ℕ) → Dec (k ≡ j) → Bounded (prime_of b) (numerator_bound_of b k + 1) (coefficients_at (set v.f j a) k)
+      at_place k (yes same) = rw same (subst (Bounded _ _) (sym (set_same v.f j a (let e = h.size in omega arith))) ba)
+      at_place k (no other) = subst (Bounded _ _) (sym (set_other v.f j a k other)) (h.numerators k)

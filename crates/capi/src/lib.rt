@@ -3,7 +3,6 @@
 
 ghost use Rattle.std.specs.Prelude.{◌≡◌};
 ghost use Rattle.form_check.specs.Reports.{form_report_of};
-ghost use Rattle.format.specs.Outcomes.{writing_report_of};
 ghost use Rattle.job.specs.Form.{form_outcome_of};
 ghost use Rattle.margin.specs.Margin.{margin_of};
 ghost use Rattle.offered_answer.specs.Judgements.{Judged};
@@ -12,7 +11,7 @@ ghost use Rattle.recovery.specs.Recovery.{Settled};
 ghost use Rattle.trial.specs.Trial.{Trial};
 
 use form_check::FormReport;
-use format::{Report, Writing, WritingReport};
+use format::{Report, WritingReport};
 use offered_answer::JudgementReport;
 use reciprocal::ReciprocalReport;
 
@@ -21,29 +20,8 @@ use reciprocal::ReciprocalReport;
 pub extern "C" fn hanthuvelo_recover(job: &[u8], area: &mut [u8]) -> Report
     ensures { Settled job.now area.old result area.new }
 {
-    let outcome = recovery::recover(job, area);
-    format::reported(outcome)
-}
-
-// What a call that writes answers, in the papers' numbers.
-fn writing_reported(writing: Writing) -> WritingReport
-    ensures { result ≡ writing_report_of writing }
-{
-    match writing {
-        Writing::Written { bytes } => WritingReport {
-            refusal: 0,
-            row: 0,
-            written: bytes,
-        },
-        Writing::Refused { reason, row } => {
-            let refusal = format::refusal_number(reason);
-            WritingReport {
-                refusal: refusal,
-                row: row,
-                written: 0,
-            }
-        }
-    }
+    let recovery = recovery::recover(job, area);
+    Report::from(recovery)
 }
 
 // Any header, coefficients, start and number of rows to be spoiled, any area for the job: the caller owes nothing.
@@ -58,7 +36,7 @@ pub extern "C" fn hanthuvelo_trial(
     ensures { Trial header.now coefficients.now start spoiled area.old result area.new }
 {
     let writing = trial::trial(header, coefficients, start, spoiled, area);
-    writing_reported(writing)
+    WritingReport::from(writing)
 }
 
 // Any code and any number: the caller owes nothing. A code above 3 names no prime, and what is 0 modulo the prime has no reciprocal; the value is
@@ -68,7 +46,7 @@ pub extern "C" fn hanthuvelo_reciprocal(prime_code: u32, number: u32) -> Recipro
     ensures { result ≡ reciprocal_report_of (coded_reciprocal prime_code number) }
 {
     let answer = reciprocal::coded_reciprocal(prime_code, number);
-    reciprocal::reported(answer)
+    ReciprocalReport::from(answer)
 }
 
 // Any job and any offered answer: the caller owes nothing.
@@ -77,7 +55,7 @@ pub extern "C" fn hanthuvelo_judge(job: &[u8], answer: &[u8]) -> JudgementReport
     ensures { Judged job.now answer.now result }
 {
     let judgement = offered_answer::judge(job, answer);
-    offered_answer::reported(judgement)
+    JudgementReport::from(judgement)
 }
 
 // Any job: the caller owes nothing. The report is that of the first of tests 1, 11 and 3 to 6 that applies, zeros where none does.
@@ -85,8 +63,8 @@ pub extern "C" fn hanthuvelo_judge(job: &[u8], answer: &[u8]) -> JudgementReport
 pub extern "C" fn hanthuvelo_check(job: &[u8]) -> FormReport
     ensures { result ≡ form_report_of (form_outcome_of job.now) }
 {
-    let outcome = form_check::check(job);
-    form_check::reported(outcome)
+    let check = form_check::check(job);
+    FormReport::from(check)
 }
 
 // Any job and any number of wrong rows: the caller owes nothing. 0 where a test before 7 refuses the job, or the margin would be below 1.

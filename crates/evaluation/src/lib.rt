@@ -7,6 +7,7 @@ ghost use Rattle.poly.specs.Coefficients.{Bounded};
 ghost use Rattle.evaluation.specs.Values.{forms_of, Formed, Evaluated};
 
 use field::Prime;
+use lanes::Modulus;
 use poly::Poly;
 
 // A residue for each of up to 32 rows, in the order of the rows.
@@ -34,13 +35,10 @@ pub fn values(q: Prime, xs: &[u16; 32], rows: usize, n: usize, a: Poly) -> PerRo
     requires { (rows ≤ 32) × (n ≤ 32) × Bounded (modulus_of q) n a.c × Formed (modulus_of q) xs.now rows }
     ensures { Evaluated (modulus_of q) xs.now rows a.c result.v }
 {
-    let ps = [field::modulus(q) as u16; 32];
-    let vs = [montgomery::inverse(q); 32];
+    let m = Modulus::new(q);
     let mut v = [0u16; 32];
-    let mut k = n;
-    while 0 < k {
-        k -= 1;
-        lane_horner::horner(&ps, &vs, rows, xs, &mut v, a.c[k] as u16);
+    for k in (0..n).rev() {
+        lane_horner::horner(&m, rows, xs, &mut v, a.c[k] as u16);
     }
-    PerRow { v: v }
+    PerRow { v }
 }

@@ -33,8 +33,8 @@ impl Bounds {
         ensures { result ≡ largest_bound self n }
     {
         let mut largest: usize = 0;
-        for i in 0..n {
-            largest = largest.max(self.numerator_bound(i));
+        for bound in &self.numerators[..n] {
+            largest = largest.max(*bound);
         }
         largest
     }
@@ -44,10 +44,9 @@ impl Bounds {
         requires { FitsPolynomials self }
         ensures { result ≡ answer_length_of self }
     {
-        let n = self.outputs;
         let mut count = self.dg + 1;
-        for i in 0..n {
-            count += self.numerator_bound(i) + 1;
+        for bound in &self.numerators[..self.outputs] {
+            count += *bound + 1;
         }
         4 + 2 * count
     }

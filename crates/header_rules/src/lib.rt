@@ -10,14 +10,10 @@ use header::Header;
 
 // Whether an output that does not exist has a bound other than 0.
 fn bounds_absent(b: Bounds) -> bool
+    requires { b.outputs ≤ 4 }
     ensures { result ≡ bounds_absent b }
 {
-    for i in 0..4 {
-        if (b.outputs <= i) & (b.numerator_bound(i) != 0) {
-            return true;
-        }
-    }
-    false
+    b.numerators[b.outputs..].iter().any(|bound| *bound != 0)
 }
 
 // Whether the longer header breaks a rule.

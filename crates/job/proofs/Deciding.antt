@@ -1,13 +1,11 @@
 -- Which test decides.
 use mathlib.Core.Bool.{true, false}
 use mathlib.Core.List.{List}
-use mathlib.Core.Logic.{◌⊎◌, inl, inr}
 use mathlib.Core.Path.{◌≡◌, refl}
 use Prim.Native.Nat.{ℕ}
 use Rattle.std.specs.Prelude.{Option, Some, None, Result, Ok, Err}
 use Rattle.format.specs.declared.Refusal.{Refusal}
 use Rattle.lists.proofs.Truth.{clash}
-use Rattle.format.specs.declared.Reason.{Reason}
 use Rattle.format.specs.declared.Reason.TheVariants.{TooShort, TooFewRows, OutOfRange, TooFewSpeaking, RepeatedPoint, AreaTooShort}
 use Rattle.header.specs.Header.{bounds_of}
 use Rattle.lists.specs.Search.{first_below, if_holds}
@@ -18,12 +16,6 @@ use Rattle.format.specs.Outcomes.{refused}
 -- three tests, by what they found
 abbrev three_tests : (a b c : Option ℕ) → Result (Unit {0}) Refusal → Result (Unit {0}) Refusal
 three_tests a b c later = refuse OutOfRange a (refuse TooFewSpeaking b (refuse RepeatedPoint c later))
-
-three_or_refused : (a b c : Option ℕ) → (three_tests a b c (Ok tt) ≡ Ok tt) ⊎ ((reason : Reason) × (row : ℕ) × (three_tests a b c (Ok tt) ≡ refused reason row))
-three_or_refused (Some r) b c = inr (OutOfRange, r, refl)
-three_or_refused None (Some r) c = inr (TooFewSpeaking, r, refl)
-three_or_refused None None (Some r) = inr (RepeatedPoint, r, refl)
-three_or_refused None None None = inl refl
 
 three-refused : (a b c : Option ℕ) {e : Refusal} (later : Result (Unit {0}) Refusal) → three_tests a b c (Ok tt) ≡ Err e → three_tests a b c later ≡ Err e
 three-refused (Some r) b c later e = e
@@ -47,9 +39,6 @@ module _ (s : List ℕ) where
 
   abbrev repeated : Option ℕ
   repeated = first_below (bounds_of s).rows (repeated_point s)
-
-  pub rows_or_refused : (row_tests s (Ok tt) ≡ Ok tt) ⊎ ((reason : Reason) × (row : ℕ) × (row_tests s (Ok tt) ≡ refused reason row))
-  rows_or_refused = three_or_refused range few repeated
 
   pub rows-refused : {e : Refusal} (later : Result (Unit {0}) Refusal) → row_tests s (Ok tt) ≡ Err e → row_tests s later ≡ Err e
   rows-refused later e = three-refused range few repeated later e

@@ -1,14 +1,12 @@
 -- What tests 1, 11, 3 and 4 decide.
 use mathlib.Core.Bool.{Bool, true, false, cond}
 use mathlib.Core.List.{List}
-use mathlib.Core.Logic.{◌⊎◌, inl, inr}
 use mathlib.Core.Path.{◌≡◌, refl}
 use Prim.Native.Nat.{ℕ}
 use borrow.Author.Tests.{eqb-true, not-false}
 use lib.ListN.{length}
 use Rattle.std.specs.Prelude.{Result, Ok, Err}
 use Rattle.format.specs.declared.Refusal.{Refusal}
-use Rattle.format.specs.declared.Reason.{Reason}
 use Rattle.format.specs.declared.Reason.TheVariants.{TooShort, AddedHeader, ByteCount, TooFewRows}
 use Rattle.lists.specs.Search.{if_holds}
 use Rattle.header.specs.Header.{header_of, job_length_of}
@@ -22,11 +20,6 @@ use Rattle.format.specs.Outcomes.{refused}
 abbrev pub after_header : Result (Unit {0}) Refusal → Result (Unit {0}) Refusal → Result (Unit {0}) Refusal
 after_header (Ok _) later = later
 after_header (Err e) later = Err e
-
--- a refusal stands before what the tests of the rows say
-pub refused_first : (o later : Result (Unit {0}) Refusal) → (o ≡ Ok tt → ⊥) → o ≡ after_header o later
-refused_first (Ok _) later other = absurd (other refl)
-refused_first (Err e) later other = refl
 
 -- four tests, a to d, and what they are refused for
 abbrev four_tests : (a b c d : Bool) → Result (Unit {0}) Refusal
@@ -48,13 +41,6 @@ four-passed false false true d e = absurd (refused_not_accepted e)
 four-passed false false false true e = absurd (refused_not_accepted e)
 four-passed false false false false e = refl
 
-four_or_refused : (a b c d : Bool) → (four_tests a b c d ≡ Ok tt) ⊎ ((reason : Reason) × (row : ℕ) × (four_tests a b c d ≡ refused reason row))
-four_or_refused true b c d = inr (TooShort, 0, refl)
-four_or_refused false true c d = inr (AddedHeader, 0, refl)
-four_or_refused false false true d = inr (ByteCount, 0, refl)
-four_or_refused false false false true = inr (TooFewRows, 0, refl)
-four_or_refused false false false false = inl refl
-
 module _ (s : List ℕ) where
   pub outcome_by_header : (area : ℕ) → outcome_of s area ≡ after_header (header_outcome_of (length s) (header_of s)) (outcome_of_rows s area)
   unfolding outcome_of
@@ -66,7 +52,3 @@ module _ (s : List ℕ) where
   -- what is known where none of them refuses
   pub header-passed : header_outcome_of (length s) (header_of s) ≡ Ok tt → length s ≡ job_length_of (header_of s)
   header-passed e = eqb-true _ _ (not-false _ (four-passed (too_short s) (added_header_broken s) (byte_count_differs s) (too_few_rows s) e))
-
-  -- and that nothing else is said
-  pub passed_or_refused : (header_outcome_of (length s) (header_of s) ≡ Ok tt) ⊎ ((reason : Reason) × (row : ℕ) × (header_outcome_of (length s) (header_of s) ≡ refused reason row))
-  passed_or_refused = four_or_refused (too_short s) (added_header_broken s) (byte_count_differs s) (too_few_rows s)

@@ -2,13 +2,14 @@
 #![tactic(auto)]
 
 ghost use Rattle.std.specs.Prelude.{◌-◌, ◌*◌, ◌/◌, ◌≤◌, ◌<◌, ◌≡◌};
-ghost use Rattle.lanes.specs.Lanes.{groups_of, modulus_at, Moduli, Residues, replaced, combined_lane};
+ghost use Rattle.lanes.specs.Lanes.{groups_of, modulus_at, Residues, replaced, combined_lane};
 
+use lanes::Modulus;
 use montgomery::{Factor, difference, product};
 
 // d a - c b, in place of a
 pub fn combine(
-    ps: &[u16; 32],
+    m: &Modulus,
     from: usize,
     n: usize,
     d: Factor,
@@ -16,10 +17,10 @@ pub fn combine(
     c: Factor,
     b: &[u16; 32],
 ) -> usize
-    requires { («from» ≤ n) × (n ≤ 32) × Moduli ps.now × Residues ps.now a.old × Residues ps.now b.now
-        × (d.form < modulus_at ps.now) × (c.form < modulus_at ps.now) }
+    requires { («from» ≤ n) × (n ≤ 32) × Residues m.now.p a.old × Residues m.now.p b.now
+        × (d.form < modulus_at m.now.p) × (c.form < modulus_at m.now.p) }
     ensures { (result ≡ groups_of n - «from» / 8 * 8)
-        × (a.new ≡ replaced («from» / 8 * 8) (groups_of n) (combined_lane ps.now d a.old c b.now) a.old) }
+        × (a.new ≡ replaced («from» / 8 * 8) (groups_of n) (combined_lane m.now.p d a.old c b.now) a.old) }
 {
     let ds = [d.form; 32];
     let dl = [d.low; 32];
@@ -28,7 +29,7 @@ pub fn combine(
     let start = from / 8 * 8;
     let end = (n + 7) / 8 * 8;
     for k in start..end {
-        let p = ps[k];
+        let p = m.p[k];
         a[k] = difference(
             p,
             product(p, ds[k], dl[k], a[k]),

@@ -2,29 +2,23 @@
 #![tactic(auto)]
 
 ghost use Rattle.std.specs.Prelude.{◌≤◌, ◌<◌, ◌≡◌};
-ghost use Rattle.lanes.specs.Lanes.{groups_of, modulus_at, Moduli, Residues, replaced, horner_lane};
+ghost use Rattle.lanes.specs.Lanes.{groups_of, modulus_at, Residues, replaced, horner_lane};
 
+use lanes::Modulus;
 use montgomery::{difference, low, product};
 
 // x_l a_l + c, in place of a; xs holds the forms of the x_l.
-pub fn horner(
-    ps: &[u16; 32],
-    vs: &[u16; 32],
-    n: usize,
-    xs: &[u16; 32],
-    a: &mut [u16; 32],
-    c: u16,
-) -> usize
-    requires { (n ≤ 32) × Moduli ps.now × Residues ps.now xs.now × Residues ps.now a.old × (c < modulus_at ps.now) }
+pub fn horner(m: &Modulus, n: usize, xs: &[u16; 32], a: &mut [u16; 32], c: u16) -> usize
+    requires { (n ≤ 32) × Residues m.now.p xs.now × Residues m.now.p a.old × (c < modulus_at m.now.p) }
     ensures { (result ≡ groups_of n)
-        × (a.new ≡ replaced 0 (groups_of n) (horner_lane ps.now vs.now xs.now a.old c) a.old) }
+        × (a.new ≡ replaced 0 (groups_of n) (horner_lane m.now.p m.now.inverse xs.now a.old c) a.old) }
 {
-    let ms = [ps[0] - c; 32];
+    let ms = [m.p[0] - c; 32];
     let end = (n + 7) / 8 * 8;
     for k in 0..end {
-        let p = ps[k];
+        let p = m.p[k];
         let x = xs[k];
-        a[k] = difference(p, product(p, x, low(x, vs[k]), a[k]), ms[k]);
+        a[k] = difference(p, product(p, x, low(x, m.inverse[k]), a[k]), ms[k]);
     }
     end
 }

@@ -1,1 +1,2 @@
 pub mod Lanes
+pub mod ModulusOf

@@ -1,5 +1,32 @@
-// Arrays of residues changed in place, eight at a time: the definitions and laws of such loops. No code.
+// Arrays of residues changed in place, eight at a time: the modulus as such loops read it, and their definitions and laws.
 // The functions of the `lane_` crates change arrays of 32 residues of 16 bits. A function goes over whole groups of eight entries, from the
 // group of entry `from` to the group of entry n - 1, so that vector code needs no rest loop; it returns how many entries it wrote. The factors of
 // a loop are read from arrays: one in a register is widened before the loop, and its products are then no longer 16 bits.
 #![tactic(auto)]
+
+ghost use Rattle.lanes.specs.Lanes.{Moduli};
+
+use field::Prime;
+
+// The modulus and its reciprocal modulo 2^16, each 32 times.
+#[derive(Clone, Copy)]
+pub struct Modulus {
+    pub p: [u16; 32],
+    pub inverse: [u16; 32],
+    ghost alike: { Moduli p },
+}
+
+impl Modulus {
+    ghost use Rattle.lanes.specs.ModulusOf.{IsModulusOf};
+
+    pub fn new(q: Prime) -> Self
+        ensures { IsModulusOf q result }
+    {
+        let p = field::modulus(q) as u16;
+        let inverse = montgomery::inverse(q);
+        Modulus {
+            p: [p; 32],
+            inverse: [inverse; 32],
+        }
+    }
+}

@@ -6,7 +6,7 @@ use Prim.Native.Nat.{ℕ, zero, suc, ◌+◌, ◌≤◌, ◌<◌}
 use native.Mathlib.Nat.{not-suc-le-zero, le_of_suc-le-suc, eq-or-lt_of_le}
 use native.Mathlib.Numerals.{add-one}
 use native.Mathlib.Omega.{arith}
-use Rattle.std.specs.Prelude.{Option, Some, None}
+use Rattle.std.specs.Prelude.{Option, Some, None, MatchOption}
 use Rattle.lists.proofs.Truth.{clash, never_true}
 use Rattle.lists.specs.Search.{first_below, any_below, or_else, if_holds, is_found}
 
@@ -92,6 +92,13 @@ module _ (test : ℕ → Bool) where
     where
       below : (j : ℕ) → j < i → j ≡ i → ⊥
       below j m e = omega arith
+
+  -- what is said of a search by its result, as std says it of `find` over a range
+  pub first_found : (n : ℕ) (r : Option ℕ)
+      → MatchOption r ((k : ℕ) → 0 ≤ k → k < n → test k ≡ false) (λ i. (0 ≤ i) × (i < n) × (test i ≡ true) × ((k : ℕ) → 0 ≤ k → k < i → test k ≡ false))
+      → r ≡ first_below n test
+  first_found n None none = sym (none_below n (λ k l. none k (omega arith) l))
+  first_found n (Some i) found = sym (first_at i n (none_below i (λ k l. found.3 k (omega arith) l)) found.2 found.1)
 
 -- numbers that fail the test do not count
 pub first_shorter : (test : ℕ → Bool) (m n : ℕ) → n ≤ m → ((k : ℕ) → n ≤ k → k < m → test k ≡ false) → first_below m test ≡ first_below n test

@@ -8,3 +8,4 @@ pub mod Maps
 pub mod FirstBelow
 pub mod Distinct
 pub mod Counting
+pub mod Chains

@@ -12,6 +12,7 @@
 ghost use Rattle.std.specs.Prelude.{◌≤◌, ◌<◌, ◌≡◌, length, IfOk, OnErr};
 ghost use Rattle.std.specs.Counts.{IsPrefixLen};
 
+use format::{Recovered, Refusal};
 use std::io;
 use std::io::{Read, Write};
 
@@ -60,39 +61,30 @@ fn read_job(input: &mut impl Read, bytes: &mut [u8]) -> io::Result<usize>
     ensures ok { IfOk result (λ n. IsPrefixLen n bytes.new) }
     ensures err { OnErr result (length bytes.new ≡ length bytes.old) }
 {
-    let mut count = 0;
-    while count < bytes.len() {
+    for (count, byte) in bytes.iter_mut().enumerate() {
         if next(input)? == b'\n' {
             return Ok(count);
         }
-        bytes[count] = read_byte(input)?;
-        count += 1;
+        *byte = read_byte(input)?;
     }
-    Ok(count)
+    Ok(bytes.len())
 }
 
-fn show_numbers(rt: &impl Print, word: &str, first: u32, second: u32) -> io::Result<()> {
-    print!(rt; "{word}{first} {second}")
-}
-
-fn show_outcome(rt: &impl Print, outcome: format::Outcome) -> io::Result<()> {
-    let report = format::reported(outcome);
-    if report.refusal == 0 {
-        return show_numbers(rt, " recovered ", report.written, report.wrong);
+fn show_recovery(rt: &impl Print, recovery: Result<Recovered, Refusal>) -> io::Result<()> {
+    match recovery {
+        Ok(Recovered { bytes, wrong }) => print!(rt; " recovered {bytes} {wrong}"),
+        Err(Refusal { reason, row }) => {
+            let number = u32::from(reason);
+            print!(rt; " refused {number} {row}")
+        }
     }
-    show_numbers(rt, " refused ", report.refusal, report.row)
 }
 
-fn show_bytes(rt: &impl Print, bytes: &[u8; 20]) -> io::Result<()> {
-    for k in 0..20 {
-        let byte = wide(bytes[k]);
+fn show_bytes(rt: &impl Print, bytes: &[u8]) -> io::Result<()> {
+    for byte in bytes {
         print!(rt; "{byte:02x}")?;
     }
     Ok(())
-}
-
-fn wide(byte: u8) -> u64 {
-    byte as u64
 }
 
 // The answer area is the first bytes of the memory.
@@ -100,8 +92,8 @@ fn show(rt: &impl Print, job: &[u8], area: usize) -> io::Result<()>
     requires { area ≤ 20 }
 {
     let mut memory = [0xA5u8; 20];
-    let outcome = recovery::recover(job, &mut memory[0..area]);
-    show_outcome(rt, outcome)?;
+    let recovery = recovery::recover(job, &mut memory[..area]);
+    show_recovery(rt, recovery)?;
     print!(rt; " ")?;
     show_bytes(rt, &memory)?;
     print!(rt; "\n")

@@ -5,17 +5,21 @@ ghost use Rattle.std.specs.Prelude.{◌+◌, ◌*◌, ◌<◌, ◌≤◌, true, 
 ghost use Rattle.lists.specs.Counting.{count_below};
 ghost use Rattle.lists.specs.Search.{first_below, any_below, Distinct};
 
-// Whether one of the values from place `from` on is p or more.
-fn value_out_of_range(values: &[u32; 128], from: usize, outputs: usize, p: u32) -> bool
-    requires { (outputs ≤ 4) × (from + 4 ≤ 128) }
-    ensures { result ≡ any_below outputs (λ i. leb p (get_or values.now (from + i) 0)) }
+// Whether row r has a point or a value that is p or more.
+fn row_out_of_range(
+    points: &[u32; 32],
+    values: &[u32; 128],
+    r: usize,
+    outputs: usize,
+    p: u32,
+) -> bool
+    requires { (r ≤ 31) × (outputs ≤ 4) }
+    ensures { result ≡ (leb p (get_or points.now r 0) || any_below outputs (λ i. leb p (get_or values.now (r * 4 + i) 0))) }
 {
-    for i in 0..outputs {
-        if p <= values[from + i] {
-            return true;
-        }
-    }
-    false
+    p <= points[r]
+        || values[r * 4..r * 4 + outputs]
+            .iter()
+            .any(|value| p <= *value)
 }
 
 // The first row with a point or a value that is p or more.
@@ -29,16 +33,9 @@ pub fn first_out_of_range(
     requires { (rows ≤ 31) × (outputs ≤ 4) }
     ensures { result ≡ first_below rows (λ r. leb p (get_or points.now r 0) || any_below outputs (λ i. leb p (get_or values.now (r * 4 + i) 0))) }
 {
-    for r in 0..rows {
-        let row = r as u32;
-        if p <= points[r] {
-            return Some(row);
-        }
-        if value_out_of_range(values, r * 4, outputs, p) {
-            return Some(row);
-        }
-    }
-    None
+    (0..rows)
+        .find(|r| row_out_of_range(points, values, *r, outputs, p))
+        .map(|r| r as u32)
 }
 
 // Whether the point of row r stands in an earlier row.
@@ -47,12 +44,7 @@ fn stands_earlier(points: &[u32; 32], r: usize) -> bool
     ensures { result ≡ any_below r (λ q. eqb (get_or points.now q 0) (get_or points.now r 0)) }
 {
     let point = points[r];
-    for q in 0..r {
-        if points[q] == point {
-            return true;
-        }
-    }
-    false
+    points[..r].iter().any(|earlier| *earlier == point)
 }
 
 // Whether each point is above the one in the row before.
@@ -73,8 +65,8 @@ fn count_of(numbers: &[u32; 32], x: u32) -> u32
     ensures { result ≡ count_below 32 (λ k. eqb (get_or numbers.now k 0) x) }
 {
     let mut count = 0u32;
-    for k in 0..32 {
-        count = count + (numbers[k] == x) as u32;
+    for number in numbers {
+        count += (*number == x) as u32;
     }
     count
 }
@@ -84,12 +76,9 @@ fn single(numbers: &[u32; 32], rows: usize) -> bool
     requires { rows ≤ 31 }
     ensures { result ≡ true → Distinct numbers.now rows }
 {
-    for r in 0..rows {
-        if count_of(numbers, numbers[r]) != 1 {
-            return false;
-        }
-    }
-    true
+    numbers[..rows]
+        .iter()
+        .all(|number| count_of(numbers, *number) == 1)
 }
 
 // The first row whose point stands in an earlier row, each point compared with all earlier ones.
@@ -97,13 +86,9 @@ fn first_repeated_by_pairs(points: &[u32; 32], rows: usize) -> Option<u32>
     requires { rows ≤ 31 }
     ensures { result ≡ first_below rows (λ r. any_below r (λ q. eqb (get_or points.now q 0) (get_or points.now r 0))) }
 {
-    for r in 0..rows {
-        let later = r as u32;
-        if stands_earlier(points, r) {
-            return Some(later);
-        }
-    }
-    None
+    (0..rows)
+        .find(|r| stands_earlier(points, *r))
+        .map(|r| r as u32)
 }
 
 // The first row whose point stands in an earlier row. That none does is seen more quickly where points rise; and where there are many, if the

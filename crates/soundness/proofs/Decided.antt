@@ -2,13 +2,12 @@
 use lib.ListN.{get_or}
 use Rattle.format.specs.Bounds.{prime_of}
 use mathlib.Core.Path.{◌≡◌, refl, sym, ◌∙◌, ap, ap₂, subst}
-use mathlib.Core.Logic.{inl, inr}
-use mathlib.Core.Bool.{true, cond}
 use mathlib.Core.List.{List}
 use Prim.Native.Nat.{ℕ, zero, suc, ◌+◌, ◌-◌, ◌*◌, ◌%◌, ◌≤◌, ◌<◌}
 use native.Mathlib.Decide.{ℕ_discrete}
 use native.Mathlib.Omega.{arith}
 use borrow.Author.Tests.{eq-eqb, ne_eqb}
+use Rattle.std.specs.Prelude.{Option, Some, None, option_and_then}
 use Rattle.algebra.proofs.Counting.{failures_le}
 use Rattle.algebra.proofs.Field.{Field}
 use Rattle.algebra.proofs.Bounds.{Below}
@@ -20,6 +19,7 @@ use Rattle.method.proofs.CrossProduct.{conditions, active_count as methodActive,
 use Rattle.method.proofs.Outputs.{none_if_psi_null}
 use Rattle.reciprocal.proofs.PrimeField.{residue, residue-mul}
 use Rattle.format.specs.declared.Bounds.{Bounds}
+use Rattle.poly.specs.declared.Vector.{Vector}
 use Rattle.poly.specs.Coefficients.{Stored}
 use Rattle.poly.specs.Operations.{value_of, length_of}
 use Rattle.lists.proofs.Tabulated.{at_tabulate}
@@ -31,12 +31,11 @@ use Rattle.euclid.proofs.Leading.{bounded_stored}
 use Rattle.column.specs.Columns.{column_of}
 use Rattle.format.proofs.Sizes.{denominator-low}
 use Rattle.column.proofs.Columns.{column_is, bounded_column}
-use Rattle.candidate.specs.declared.vector.Candidate.{Candidate}
 use Rattle.candidate.specs.Candidates.{phi_bound, psi_bound, output_pair_of, with_fraction, next_of, candidate_after}
 use Rattle.soundness.proofs.Interpolation.{condition_at, active_means, Lists, solution_means}
 use Rattle.soundness.proofs.Fraction.{fraction_means}
 use Rattle.soundness.proofs.Tables.{P, R, F, poly, evaluation, problem, Usable, ample, capacity}
-use Rattle.soundness.proofs.Candidates.{Good, Verdict, no_answer, start_decided, extended_decided}
+use Rattle.soundness.proofs.Candidates.{Good, Verdict, start_decided, extended_decided}
 
 -- conditions that agree are active alike
 same-active : (F : Field) (row row' : ℕ → Condition F.ring) (k : ℕ) → ((l : ℕ) → l < k → (row l).c ≡ (row' l).c) → ((l : ℕ) → l < k → (row l).z ≡ (row' l).z)
@@ -54,21 +53,21 @@ module _ (b : Bounds) (speaking : ℕ) (points weights values : List ℕ) (U : U
   positive = let two = (P b).two in omega arith
 
   -- the right-hand sides of output i's conditions
-  module _ (i : ℕ) (c : Candidate) (G : Good b speaking points weights values U i c) where
+  module _ (i : ℕ) (v : Vector) (G : Good b speaking points weights values U i v) where
     abbrev z : List ℕ
-    z = column_of b points values i c.g.c
+    z = column_of b points values i v.g.c
 
-    z_at : (l : ℕ) → l < b.rows → get_or z l 0 ≡ value_of p (get_or points l 0) c.g.c * get_or values (l * 4 + i) 0 % p
+    z_at : (l : ℕ) → l < b.rows → get_or z l 0 ≡ value_of p (get_or points l 0) v.g.c * get_or values (l * 4 + i) 0 % p
     unfolding column_of
-    z_at l h = at_tabulate 32 _ l (let n = U.enough_rows.rows in omega arith) ∙ sym (column_is p b.rows points values i c.g.c l h refl refl)
+    z_at l h = at_tabulate 32 _ l (let n = U.enough_rows.rows in omega arith) ∙ sym (column_is p b.rows points values i v.g.c l h refl refl)
 
     z_below : (l : ℕ) → get_or z l 0 < p
     unfolding column_of
-    z_below = (bounded_column p b.rows points values i c.g.c positive).residues
+    z_below = (bounded_column p b.rows points values i v.g.c positive).residues
 
     -- they are those of the method
     z_means : (l : ℕ) → l < b.rows
-        → residue p (P b) (get_or z l 0) ≡ (conditions (F b) 32 (poly b c.g.c) i (evaluation b points weights values) l).z
+        → residue p (P b) (get_or z l 0) ≡ (conditions (F b) 32 (poly b v.g.c) i (evaluation b points weights values) l).z
     z_means l h =
         ap (residue p (P b)) (z_at l h) ∙ residue-mod p (P b) _ ∙ sym (residue-mul p (P b) _ _)
         ∙ ap (λ t. (R b).mul t (residue p (P b) (get_or values (l * 4 + i) 0)))
@@ -87,15 +86,15 @@ module _ (b : Bounds) (speaking : ℕ) (points weights values : List ℕ) (U : U
     abbrev B : ℕ
     B = psi_bound b speaking (active_count weights z b.rows)
 
-    module _ (li : i < b.outputs) (sc : c.solvable ≡ true) where
+    module _ (li : i < b.outputs) where
       -- as many rows ask something of output i as it has active conditions
-      active : active_count weights z b.rows ≡ methodActive (F b) 32 T (poly b c.g.c) i
+      active : active_count weights z b.rows ≡ methodActive (F b) 32 T (poly b v.g.c) i
       active = sym (active_means p (P b) points weights z U.weights_below z_below b.rows) ∙ same-active (F b) _ _ b.rows (λ l h. refl) z_means
 
       a_degree : phi_bound b speaking ≡ phi_degree (F b) T
       a_degree = ap (phi_bound b) (sym U.speaking)
 
-      b-degree : psi_bound b speaking (active_count weights z b.rows) ≡ psi_degree (F b) 32 T (poly b c.g.c) i
+      b-degree : psi_bound b speaking (active_count weights z b.rows) ≡ psi_degree (F b) 32 T (poly b v.g.c) i
       b-degree = ap₂ (λ n a. n - (a + 1)) active a_degree ∙ less_one _ _
         where
           less_one : (n a : ℕ) → n - (a + 1) ≡ n - 1 - a
@@ -112,7 +111,7 @@ module _ (b : Bounds) (speaking : ℕ) (points weights values : List ℕ) (U : U
       solution = solution_means p (P b) A B points weights z U.points_below z_below b.rows U.enough_rows.rows
           (active_means p (P b) points weights z U.weights_below z_below b.rows ∙ both)
 
-      solves : Solves (R b) (phi_degree (F b) T) (psi_degree (F b) 32 T (poly b c.g.c) i) 32 (conditions (F b) 32 (poly b c.g.c) i (evaluation b points weights values)) b.rows
+      solves : Solves (R b) (phi_degree (F b) T) (psi_degree (F b) 32 T (poly b v.g.c) i) 32 (conditions (F b) 32 (poly b v.g.c) i (evaluation b points weights values)) b.rows
           (poly b s.a.c) (poly b s.b.c)
       solves = record {
         phi_below = subst (λ n. Below (R b) (poly b s.a.c) (suc n)) a_degree solution.1.phi_below;
@@ -127,20 +126,19 @@ module _ (b : Bounds) (speaking : ℕ) (points weights values : List ℕ) (U : U
       stored_right : Stored p s.b.c
       stored_right = bounded_stored solution.0.bounded.right solution.0.right-size
 
-      fraction_decided : Dec (length_of s.b.c ≡ 0) → Verdict b speaking points weights values U (suc i) (with_fraction b i s c)
+      fraction_decided : Dec (length_of s.b.c ≡ 0) → Verdict b speaking points weights values U (suc i) (with_fraction b i s v)
       unfolding with_fraction
       fraction_decided (yes null) =
           rw (eq-eqb _ _ null)
-          (no_answer b speaking points weights values U (suc i)
           (none_if_psi_null (F b) 32 (problem b points weights values) (ample b speaking points weights values U) (capacity b speaking points weights values U) li G.candidate solves
-          (length_means_null p (P b) solution.0.bounded.right null)))
+          (length_means_null p (P b) solution.0.bounded.right null))
       fraction_decided (no nonzero) =
           let M = fraction_means p (P b) stored_left stored_right nonzero in
           rw (ne_eqb _ _ nonzero)
-          (extended_decided b speaking points weights values U li sc G solves M.terms M.numerator M.denominator M.numerator_bounded M.denominator_bounded
+          (extended_decided b speaking points weights values U li G solves M.terms M.numerator M.denominator M.numerator_bounded M.denominator_bounded
           M.denominator-length)
 
-      next_decided : Verdict b speaking points weights values U (suc i) (next_of b speaking points weights values i c)
+      next_decided : Verdict b speaking points weights values U (suc i) (next_of b speaking points weights values i v)
       unfolding next_of
       next_decided = fraction_decided (ℕ_discrete (length_of s.b.c) 0)
 
@@ -150,9 +148,7 @@ module _ (b : Bounds) (speaking : ℕ) (points weights values : List ℕ) (U : U
   decided zero l = start_decided b speaking points weights values U
   decided (suc i) l = by (candidate_after b speaking points weights values i) (decided i (omega arith))
     where
-      by : (c : Candidate) → Verdict b speaking points weights values U i c
-          → Verdict b speaking points weights values U (suc i) (cond c.solvable (next_of b speaking points weights values i c) c)
-      by c (inl G) =
-          subst (λ t. Verdict b speaking points weights values U (suc i) (cond t (next_of b speaking points weights values i c) c)) (sym G.0) (next_decided i c G.1 (omega arith) G.0)
-      by c (inr none) =
-          subst (λ t. Verdict b speaking points weights values U (suc i) (cond t (next_of b speaking points weights values i c) c)) (sym none.0) (inr none)
+      by : (o : Option Vector) → Verdict b speaking points weights values U i o
+          → Verdict b speaking points weights values U (suc i) (option_and_then (next_of b speaking points weights values i) o)
+      by (Some v) G = next_decided i v G (omega arith)
+      by None unanswered = unanswered

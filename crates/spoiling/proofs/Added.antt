@@ -1,11 +1,10 @@
 -- Laws of what the spoilings add to the rows.
-use Rattle.std.proofs.Common.{◌≡◌, ℕ, zero, suc, ◌+◌, ◌-◌, ◌*◌, ◌%◌, ◌^◌, ◌<◌, ◌≤◌, Bool, true, false, cond, not, eqb, get_or, refl, ap, ◌∙◌, mod-lt, arith, eq-eqb, ne_eqb, eqb-true}
+use Rattle.std.proofs.Common.{◌≡◌, ℕ, Option, zero, suc, ◌+◌, ◌-◌, ◌*◌, ◌%◌, ◌^◌, ◌<◌, ◌≤◌, Bool, true, false, cond, not, eqb, get_or, refl, ap, ◌∙◌, mod-lt, arith, eq-eqb, ne_eqb, eqb-true}
 use native.Mathlib.Nat.{mod-le}
 use borrow.Author.Tests.{not-false}
 use Rattle.lists.specs.Tabulated.{tabulate}
 use Rattle.lists.proofs.Tabulated.{at_tabulate_all}
 use Rattle.lists.proofs.Truth.{clash}
-use Rattle.lists.specs.declared.Found.{Found}
 use Rattle.lists.proofs.FirstBelow.{first_cong}
 use Rattle.spoiling.specs.Draws.{drawn, top_bits}
 use Rattle.spoiling.specs.Spoiling.{number_in, untaken_from, chosen_row, amount_of, added_by, spoiled_by}
@@ -20,7 +19,7 @@ unfolding chosen_row untaken_from
 chosen_row_cong L a b word h same =
     let d = top_bits word % L in
     let row : (k : ℕ) → a ((d + k) % L) ≡ b ((d + k) % L) = λ k. same ((d + k) % L) (mod-lt (d + k) h) in
-    ap (λ (f : Found). (d + number_in f) % L) (first_cong L _ _ (λ k l. ap (λ (x : ℕ). not (not (eqb x 0))) (row k)))
+    ap (λ (f : Option ℕ). (d + number_in f) % L) (first_cong L _ _ (λ k l. ap (λ (x : ℕ). not (not (eqb x 0))) (row k)))
 
 pub amount_below : (p word : ℕ) → 1 < p → amount_of p word < p
 amount_below p word h = let l : top_bits word % (p - 1) < p - 1 = mod-lt (top_bits word) (omega arith) in omega arith

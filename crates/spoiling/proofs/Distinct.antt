@@ -1,9 +1,7 @@
 -- "spoil w different rows": as long as rows are left, each spoiling chooses a row that no earlier one has spoiled.
-use Rattle.std.proofs.Common.{◌≡◌, ℕ, zero, suc, ◌+◌, ◌-◌, ◌*◌, ◌%◌, ◌<◌, ◌≤◌, Bool, true, false, not, eqb, sym, refl, ap, ◌∙◌, mod-lt, mod-eq_of_lt, arith, ne_eqb, eqb-true}
+use Rattle.std.proofs.Common.{◌≡◌, ℕ, Option, Some, None, zero, suc, ◌+◌, ◌-◌, ◌*◌, ◌%◌, ◌<◌, ◌≤◌, Bool, true, false, not, eqb, sym, refl, ap, ◌∙◌, mod-lt, mod-eq_of_lt, arith, ne_eqb, eqb-true}
 use native.Mathlib.Nat.{add-mod-mod, add-mod_right}
 use borrow.Author.Tests.{not-true, not-false}
-use Rattle.lists.specs.declared.Found.{Found}
-use Rattle.lists.specs.declared.Found.TheVariants.{At, Nothing}
 use Rattle.lists.specs.Search.{first_below}
 use Rattle.lists.proofs.FirstBelow.{none_passes, found_passes}
 use Rattle.lists.specs.Counting.{one_if, count_below}
@@ -29,9 +27,9 @@ untaken : (L : ℕ) (taken : ℕ → Bool) (d : ℕ) → d < L → count_below L
 unfolding untaken_from
 untaken L taken d h few = by (first_below L (λ k. not (taken ((d + k) % L)))) refl
   where
-    by : (f : Found) → first_below L (λ k. not (taken ((d + k) % L))) ≡ f → taken ((d + number_in f) % L) ≡ false
-    by (At k) e = not-true _ (found_passes (λ k. not (taken ((d + k) % L))) L k e)
-    by Nothing e =
+    by : (f : Option ℕ) → first_below L (λ k. not (taken ((d + k) % L))) ≡ f → taken ((d + number_in f) % L) ≡ false
+    by (Some k) e = not-true _ (found_passes (λ k. not (taken ((d + k) % L))) L k e)
+    by None e =
         let turned : (i : ℕ) → i < L → taken ((d + (i + (L - d)) % L) % L) ≡ true =
         λ i l. not-false _ (none_passes (λ k. not (taken ((d + k) % L))) L e ((i + (L - d)) % L) (mod-lt _ (omega arith))) in
         let full = count_all L taken (λ i l. ap taken (sym (reached L d i h l)) ∙ turned i l) in

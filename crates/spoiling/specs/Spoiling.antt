@@ -1,14 +1,12 @@
 -- Paper 02, item 1: "spoil w different rows" of L, modulo the prime p.
-use Rattle.std.specs.Prelude.{ℕ, zero, suc, ◌+◌, ◌-◌, ◌*◌, ◌%◌, Bool, cond, not, ◌==◌}
-use Rattle.lists.specs.declared.Found.{Found}
-use Rattle.lists.specs.declared.Found.TheVariants.{At, Nothing}
+use Rattle.std.specs.Prelude.{ℕ, zero, suc, ◌+◌, ◌-◌, ◌*◌, ◌%◌, Bool, cond, not, ◌==◌, Option, Some, None}
 use Rattle.lists.specs.Search.{first_below}
 use Rattle.spoiling.specs.Draws.{drawn, top_bits}
 
 -- the number that a search found, 0 where it found none
-abbrev pub number_in : Found → ℕ
-number_in (At i) = i
-number_in Nothing = 0
+abbrev pub number_in : Option ℕ → ℕ
+number_in (Some i) = i
+number_in None = 0
 
 -- row d where it is not taken, else "the next unspoiled row", "from the last row to row 0"
 unfoldable pub untaken_from : (L : ℕ) (taken : ℕ → Bool) (d : ℕ) → ℕ

@@ -9,24 +9,11 @@ ghost use Rattle.spoiling.specs.Spoiling.{untaken_from, chosen_row, amount_of, a
 
 use field::Prime;
 
-// What is added to the first value of each row, 0 where the row is not spoiled.
-#[derive(Clone, Copy)]
-pub struct Additions {
-    pub by: [u32; 32],
-}
-
-// The low 32 bits of the product.
-fn wrapping_product(a: u32, b: u32) -> u32
-    ensures { result ≡ a * b % 2 ^ 32 }
-{
-    (a as u64 * b as u64 % 4294967296) as u32
-}
-
 // One draw.
 fn next_word(last: u32) -> u32
     ensures { result ≡ next_word last }
 {
-    std::num::wrapping_add_u32(wrapping_product(1664525, last), 1013904223)
+    last.wrapping_mul(1664525).wrapping_add(1013904223)
 }
 
 fn top_bits(word: u32) -> u32
@@ -36,23 +23,19 @@ fn top_bits(word: u32) -> u32
 }
 
 // Row d if it is not spoiled, else the next one that is not, from the last row to row 0.
-fn untaken_from(by: [u32; 32], rows: usize, d: usize) -> usize
+fn untaken_from(by: &[u32; 32], rows: usize, d: usize) -> usize
     requires { (rows ≤ 32) × (d < rows) }
-    ensures { result ≡ untaken_from rows (λ i. not (slice_index by i == 0)) d }
+    ensures { result ≡ untaken_from rows (λ i. not (slice_index by.now i == 0)) d }
 {
-    for k in 0..rows {
-        let r = (d + k) % rows;
-        if by[r] == 0 {
-            return r;
-        }
-    }
-    d
+    let behind = (0..rows).find(|k| by[(d + *k) % rows] == 0).unwrap_or(0);
+    (d + behind) % rows
 }
 
 // The row that a draw chooses.
-fn chosen_row(by: [u32; 32], rows: usize, word: u32) -> usize
+#[tactic(auto, unfolding(crate::specs::Spoiling::chosen_row))]
+fn chosen_row(by: &[u32; 32], rows: usize, word: u32) -> usize
     requires { (0 < rows) × (rows ≤ 32) }
-    ensures { result ≡ chosen_row rows (λ i. slice_index by i) word }
+    ensures { result ≡ chosen_row rows (λ i. slice_index by.now i) word }
 {
     let d = top_bits(word) as usize % rows;
     untaken_from(by, rows, d)
@@ -66,18 +49,18 @@ fn amount(q: Prime, word: u32) -> u32
     top_bits(word) % (p - 1) + 1
 }
 
-// The first `count` spoilings of `rows` rows.
-pub fn spoilings(q: Prime, rows: usize, start: u32, count: usize) -> Additions
+// What the first `count` spoilings of `rows` rows add to the first value of each row, 0 where the row is not spoiled.
+pub fn spoilings(q: Prime, rows: usize, start: u32, count: usize) -> [u32; 32]
     requires { (0 < rows) × (rows ≤ 32) }
-    ensures { result.by ≡ tabulate 32 (added_by (modulus_of q) rows start count) }
+    ensures { result ≡ tabulate 32 (added_by (modulus_of q) rows start count) }
 {
     let mut by = [0u32; 32];
     let mut last = start;
-    for j in 0..count {
+    for _ in 0..count {
         let word = next_word(last);
-        let row = chosen_row(by, rows, word);
+        let row = chosen_row(&by, rows, word);
         last = next_word(word);
         by[row] = amount(q, last);
     }
-    Additions { by: by }
+    by
 }

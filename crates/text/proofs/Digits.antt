@@ -1,36 +1,23 @@
--- Decimal digits, one by one.
-use Prim.Native.Nat.{ℕ, zero, suc, ◌+◌, ◌-◌, ◌/◌, ◌%◌, ◌^◌, ◌≤◌, ◌<◌}
-use mathlib.Core.Path.{◌≡◌, refl}
-use mathlib.Core.Bool.{Bool, true, false, cond}
-use mathlib.Core.List.{[], ◌∷◌, ◌++◌}
-use native.Mathlib.Nat.{pow-suc}
-use native.Mathlib.Omega.{arith}
-use lib.Dec.{ltb}
-use lib.ListN.{length, length-append}
-use borrow.Author.Tests.{lt-ltb, le-ltb, ltb-false}
-use Rattle.text.specs.Decimal.{digits_within}
+-- The decimal digits of a number are those that std prints (`decimal`).
+use Rattle.std.proofs.Common.{◌≡◌, ℕ, suc, ◌+◌, ◌/◌, ◌%◌, ◌^◌, ◌≤◌, ◌<◌, [], ◌∷◌, ◌++◌, length, sym, ap, ◌∙◌, arith, rules}
+use Rattle.std.specs.Fmt.{decimal}
+use Rattle.std.proofs.lemmas.Fmt.{AppendsLastDigit, decimal_from_appends, decimal_digit, decimal_step, length-decimal-le, length-decimal-le_succ}
+use Rattle.text.specs.Decimal.{digits_within, decimal_of}
 
-pub digit-last : (k n : ℕ) → n < k → n < 10 → digits_within k n ≡ (48 + n) ∷ []
+appends-digits : AppendsLastDigit digits_within
 unfolding digits_within
-digit-last zero n h small = absurd (omega arith)
-digit-last (suc k) n h small = rw (lt-ltb n 10 small)
+appends-digits = search rules
 
-pub digit_more : (k n : ℕ) → n < k → 10 ≤ n → digits_within k n ≡ digits_within (k - 1) (n / 10) ++ ((48 + n % 10) ∷ [])
-unfolding digits_within
-digit_more zero n h large = absurd (omega arith)
-digit_more (suc k) n h large = let e : suc k - 1 ≡ k = omega arith in rw (le-ltb n 10 large, e)
+pub decimal_of-decimal : (n : ℕ) → n < 2 ^ 64 → decimal_of n ≡ decimal n
+decimal_of-decimal n small = decimal_from_appends digits_within appends-digits (suc n) n small (omega (arith, length-decimal-le_succ n small))
 
--- a number below 10^(j + 1) has at most j + 1 digits
-pub digits_few : (k n j : ℕ) → n < 10 ^ suc j → length (digits_within k n) ≤ suc j
-unfolding digits_within
-digits_few zero n j h = omega arith
-digits_few (suc k) n j h = by_size j h (ltb n 10) refl (digits_few k (n / 10))
-  where
-    by_size : (j : ℕ) → n < 10 ^ suc j → (small : Bool) → ltb n 10 ≡ small
-        → ((i : ℕ) → n / 10 < 10 ^ suc i → length (digits_within k (n / 10)) ≤ suc i)
-        → length (cond (ltb n 10) ((48 + n) ∷ []) (digits_within k (n / 10) ++ ((48 + n % 10) ∷ []))) ≤ suc j
-    by_size j h true e more = rw e (omega arith)
-    by_size zero h false e more = absurd (omega (arith, ltb-false n 10 e))
-    by_size (suc j) h false e more =
-        let fewer : n / 10 < 10 ^ suc j = omega (arith, pow-suc 10 (suc j)) in
-        rw e (omega (arith, length-append (digits_within k (n / 10)) ((48 + n % 10) ∷ []), more j fewer))
+pub digit_alone : (n : ℕ) → n < 10 → decimal_of n ≡ (48 + n % 10) ∷ []
+digit_alone n low = decimal_of-decimal n (omega arith) ∙ decimal_digit n low ∙ ap (λ d. (48 + d) ∷ []) (omega arith)
+
+pub digit_behind : (n : ℕ) → 10 ≤ n → n < 2 ^ 64 → decimal_of n ≡ decimal_of (n / 10) ++ ((48 + n % 10) ∷ [])
+digit_behind n large small =
+    decimal_of-decimal n small ∙ decimal_step n large small ∙ ap (λ front. front ++ ((48 + n % 10) ∷ [])) (sym (decimal_of-decimal (n / 10) (omega arith)))
+
+-- a number below 10^k has at most k digits
+pub digits_few : (k n : ℕ) → 0 < k → n < 10 ^ k → n < 2 ^ 64 → length (decimal_of n) ≤ k
+digits_few k n some low small = omega (arith, ap length (decimal_of-decimal n small), length-decimal-le k n some low small)

@@ -15,10 +15,10 @@ use Rattle.text.specs.Decimal.{item_of}
 use Rattle.text.specs.Lines.{degree_within, items_below, output_line_from, output_lines}
 
 module _ (c : ℕ → ℕ) where
-  pub degree-here : (d : ℕ) → 0 < d → (c d ≡ 0 → ⊥) → degree_within c d ≡ d
+  pub degree_here : (d : ℕ) → 0 < d → (c d ≡ 0 → ⊥) → degree_within c d ≡ d
   unfolding degree_within
-  degree-here zero some top = absurd (omega arith)
-  degree-here (suc d) some top = rw (ne_eqb (c (suc d)) 0 top)
+  degree_here zero some top = absurd (omega arith)
+  degree_here (suc d) some top = rw (ne_eqb (c (suc d)) 0 top)
 
   pub degree_lower : (d : ℕ) → 0 < d → c d ≡ 0 → degree_within c d ≡ degree_within c (d - 1)
   unfolding degree_within

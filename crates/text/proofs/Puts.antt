@@ -1,56 +1,46 @@
 -- One thing put behind another.
-use Prim.Native.Nat.{ℕ, zero, suc, ◌+◌, ◌≤◌, ◌<◌}
-use mathlib.Core.Path.{◌≡◌, refl, sym, ap, ◌∙◌}
-use mathlib.Core.List.{List, [], ◌∷◌, ◌++◌, append_assoc, append-nil}
-use native.Mathlib.Nat.{min-le_right, le_refl}
-use native.Mathlib.Numerals.{add-one}
-use native.Mathlib.Omega.{arith}
-use lib.ListN.{length, take, set, length-append, length-take}
-use lib.Seq.{length-take-le, take_all, take-take, take_at, take-suc-set}
-use Rattle.text.specs.Drafts.{text_room}
+use Rattle.std.proofs.Common.{◌≡◌, ℕ, zero, suc, ◌+◌, ◌-◌, ◌≤◌, List, [], ◌∷◌, ◌++◌, length, take, refl, sym, ap, ◌∙◌, arith}
+use Rattle.std.specs.Prelude.{min}
+use mathlib.Core.List.{append_assoc, append-nil}
+use Rattle.std.proofs.Math.ListN.{length-append}
+use Rattle.std.proofs.lemmas.List.{take_min, length-take}
+use Rattle.std.proofs.lemmas.Slice.{take-put_mid}
+use borrow.Rule.Slice.PartMut.{put_mid}
+use Rattle.text.specs.Drafts.{text_room, extended}
 
-take-append-take : (n : ℕ) (a b : List ℕ) → take n (take n a ++ b) ≡ take n (a ++ b)
-take-append-take zero a b = refl
-take-append-take (suc n) [] b = refl
-take-append-take (suc n) (x ∷ a) b = ap (λ l. x ∷ l) (take-append-take n a b)
+-- ys, as much of `more` as there is room for, is written behind the first count bytes
+pub put_fits : (bytes more ys : List ℕ) (count n k : ℕ) → length bytes ≡ text_room → count ≤ text_room → n ≡ min (length more) (text_room - count) → ys ≡ take n more
+    → take (count + n) (put_mid count k bytes ys) ≡ extended (take count bytes) more
+put_fits bytes more ys count n k whole room fits part =
+    let front : length (take count bytes) ≡ count = omega (arith, length-take count bytes) in
+    let size : length ys ≡ n = ap length part ∙ omega (arith, length-take n more) in
+    let smaller : n ≡ min (text_room - length (take count bytes)) (length more) = omega arith in
+    take-put_mid count k bytes ys (count + n) (omega arith) (omega arith)
+    ∙ ap (λ l. take count bytes ++ l) (part ∙ ap (λ i. take i more) smaller ∙ take_min (text_room - length (take count bytes)) more)
 
--- b behind a draft that holds x
-pub put_onto : (x b : List ℕ) {d r : List ℕ} → d ≡ take text_room x → r ≡ take text_room (d ++ b) → r ≡ take text_room (x ++ b)
-put_onto x b before put = put ∙ ap (λ l. take text_room (l ++ b)) before ∙ take-append-take text_room x b
+take-append : (n : ℕ) (a b : List ℕ) → take n (a ++ b) ≡ take n a ++ take (n - length a) b
+take-append zero a b = let e : 0 - length a ≡ 0 = omega arith in rw e
+take-append (suc n) [] b = let e : suc n - 0 ≡ suc n = omega arith in rw e
+take-append (suc n) (x ∷ a) b = let e : suc n - suc (length a) ≡ n - length a = omega arith in rw e (ap (λ l. x ∷ l) (take-append n a b))
 
--- a and then b behind a draft that holds x
-pub put_both : (x a b : List ℕ) {d r : List ℕ} → d ≡ take text_room (x ++ a) → r ≡ take text_room (d ++ b) → r ≡ take text_room (x ++ (a ++ b))
-put_both x a b before put = put_onto (x ++ a) b before put ∙ ap (take text_room) (append_assoc x a b)
+take-nil : (n : ℕ) → take {A = ℕ} n [] ≡ []
+take-nil zero = refl
+take-nil (suc n) = refl
 
--- a draft that something was put into holds no more than it can
-pub put_empty : (x : List ℕ) {d : List ℕ} → d ≡ take text_room x → d ≡ take text_room (d ++ [])
-put_empty x {d} put =
-    sym (ap (take text_room) (append-nil d) ∙ ap (take text_room) put ∙ take-take text_room text_room x (le_refl text_room) ∙ sym put)
+pub extended-nil : (x : List ℕ) → extended x [] ≡ x
+extended-nil x = ap (λ l. x ++ l) (take-nil (text_room - length x)) ∙ append-nil x
 
-module _ (bytes : List ℕ) (whole : length bytes ≡ text_room) where
-  pub put_nothing : (count : ℕ) → take count bytes ≡ take text_room (take count bytes ++ [])
-  put_nothing count =
-      let short : length (take count bytes) ≤ text_room = omega (arith, length-take count bytes, min-le_right count (length bytes)) in
-      sym (ap (take text_room) (append-nil (take count bytes)) ∙ take_all text_room (take count bytes) short)
+-- a and then b behind x
+pub put_both : (x a b : List ℕ) {d r : List ℕ} → d ≡ extended x a → r ≡ extended d b → r ≡ extended x (a ++ b)
+put_both x a b first second =
+    let room = text_room - length x in
+    let left : text_room - length (x ++ take room a) ≡ room - length a = omega (arith, length-append x (take room a), length-take room a) in
+    second
+    ∙ ap (λ d. extended d b) first
+    ∙ append_assoc x (take room a) (take (text_room - length (x ++ take room a)) b)
+    ∙ ap (λ n. x ++ (take room a ++ take n b)) left
+    ∙ ap (λ l. x ++ l) (sym (take-append room a b))
 
-  pub put_room : (at byte : ℕ) → at < text_room → take (at + 1) (set bytes at byte) ≡ take text_room (take at bytes ++ (byte ∷ []))
-  put_room at byte room =
-      let inside : at < length bytes = omega arith in
-      let front = take at bytes ++ (byte ∷ []) in
-      let size : length front ≡ at + 1 = length-append (take at bytes) (byte ∷ []) ∙ ap (λ k. k + 1) (length-take-le at bytes (omega arith)) in
-      ap (λ k. take k (set bytes at byte)) (add-one at) ∙ take-suc-set bytes at byte inside ∙ sym (take_all text_room front (omega arith))
-
-  -- a full draft stays as it is
-  pub put_full : (at byte : ℕ) → text_room ≤ at → take at bytes ≡ take text_room (take at bytes ++ (byte ∷ []))
-  put_full at byte full =
-      let all : take at bytes ≡ bytes = take_all at bytes (omega arith) in
-      all ∙ sym (take_at bytes (byte ∷ []) text_room whole) ∙ ap (λ l. take text_room (l ++ (byte ∷ []))) (sym all)
-
-  -- a text shorter than the draft is held whole
-  pub held_whole : (count : ℕ) (text : List ℕ) → length text < text_room → take count bytes ≡ take text_room text
-      → (take count bytes ≡ text) × (count ≡ length text) × (count ≤ text_room)
-  held_whole count text short held =
-      let exact : take count bytes ≡ text = held ∙ take_all text_room text (omega arith) in
-      let least = length-take count bytes in
-      let size = ap length exact in
-      (exact, omega arith, omega arith)
+-- the pieces of a recovered text, in whichever order they are put together
+pub pieces : (a b line c d e f g h : List ℕ) → (a ++ b ++ (line ++ c) ++ d ++ (line ++ e) ++ f ++ g) ++ h ≡ a ++ b ++ line ++ c ++ d ++ line ++ e ++ f ++ g ++ h
+pieces a b line c d e f g h = simp append_assoc

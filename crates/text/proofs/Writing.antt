@@ -1,19 +1,20 @@
 -- What a call that writes a text answers, by its cases.
-use Prim.Native.Nat.{ℕ, ◌≤◌, ◌<◌}
+use Prim.Native.Nat.{ℕ, ◌≤◌}
+use Rattle.std.specs.Prelude.{Option, Result, Ok}
 use mathlib.Core.Path.{◌≡◌, ap₂, ◌∙◌}
-use mathlib.Core.Bool.{true, false, ◌&&◌, and-eq-true_iff}
+use mathlib.Core.Bool.{true, ◌&&◌, and-eq-true_iff}
 use mathlib.Core.List.{List}
 use native.Mathlib.Omega.{arith}
 use lib.Dec.{leb}
 use lib.ListN.{length}
-use borrow.Author.Tests.{lt-leb, le-leb, leb-true}
+use borrow.Author.Tests.{le-leb, leb-true}
 use Rattle.format.specs.declared.Bounds.{Bounds}
-use Rattle.format.specs.declared.Outcome.{Outcome}
+use Rattle.format.specs.declared.Recovered.{Recovered}
+use Rattle.format.specs.declared.Refusal.{Refusal}
 use Rattle.format.specs.Bounds.{largest_bound, FitsPolynomials}
 use Rattle.format.proofs.Sizes.{largest_above, largest_most}
 use Rattle.lists.specs.Overwriting.{overwritten}
-use Rattle.text.specs.declared.Written.{Written}
-use Rattle.text.specs.declared.Written.TheVariants.{Bytes, TooShort, Malformed}
+use Rattle.text.specs.declared.TextError.{TextError}
 use Rattle.text.specs.Text.{text_of, fits_of, written_of, buffer_after}
 
 -- what is left of the test where its first two parts hold
@@ -35,18 +36,12 @@ fits_true b e =
       numerators-low = λ i l. (let low = leb-true (largest_bound b b.outputs) 31 all.1 in omega (arith, largest_above b b.outputs i l));
     }
 
-module _ (b : Bounds) (outcome : Outcome) (margin : ℕ) (s old : List ℕ) where
+module _ (b : Bounds) (outcome : Option (Result Recovered Refusal)) (margin : ℕ) (s old : List ℕ) where
   -- the answer r and the buffer's contents are those of the definitions
-  abbrev pub Told : Written → List ℕ → Type 0
+  abbrev pub Told : Result ℕ TextError → List ℕ → Type 0
   Told r after = (r ≡ written_of b outcome margin s (length old)) × (after ≡ buffer_after b outcome margin s old)
 
-  pub told_malformed : fits_of b ≡ false → Told Malformed old
-  told_malformed bad = (rw bad, rw bad)
-
-  pub told_short : fits_of b ≡ true → length old < length (text_of b outcome margin s) → Told TooShort old
-  told_short good short = let test = lt-leb (length (text_of b outcome margin s)) (length old) short in (rw (good, test), rw (good, test))
-
-  pub told_bytes : fits_of b ≡ true → (n : ℕ) → n ≡ length (text_of b outcome margin s) → n ≤ length old → Told (Bytes n) (overwritten (text_of b outcome margin s) old)
+  pub told_bytes : fits_of b ≡ true → (n : ℕ) → n ≡ length (text_of b outcome margin s) → n ≤ length old → Told (Ok n) (overwritten (text_of b outcome margin s) old)
   told_bytes good n size room =
       let test = le-leb (length (text_of b outcome margin s)) (length old) (omega arith) in
       (rw (size, good, test), rw (good, test))

@@ -1,15 +1,15 @@
 -- Paper 01, "The printing program": the whole text, and what a lent buffer holds after it was written.
-use Rattle.std.specs.Prelude.{ℕ, Bool, cond, ◌&&◌, List, [], ◌∷◌, ◌++◌, leb, length}
+use Rattle.std.specs.Prelude.{ℕ, Bool, cond, ◌&&◌, List, [], ◌∷◌, ◌++◌, leb, length, codes, Option, None, Some, Result, Ok, Err}
 use Rattle.format.specs.Numbers.{word_from}
 use Rattle.format.specs.Bounds.{largest_bound}
 use Rattle.format.specs.declared.Bounds.{Bounds}
-use Rattle.format.specs.declared.Outcome.{Outcome}
-use Rattle.format.specs.declared.Outcome.TheVariants.{Accepted, Recovered, Refused}
+use Rattle.format.specs.declared.Recovered.{Recovered}
+use Rattle.format.specs.declared.Refusal.{Refusal}
 use Rattle.format.specs.Outcomes.{refusal_number}
 use Rattle.row_mask.specs.Word.{is_set}
 use Rattle.lists.specs.Overwriting.{overwritten}
-use Rattle.text.specs.declared.Written.{Written}
-use Rattle.text.specs.declared.Written.TheVariants.{Bytes, TooShort, Malformed}
+use Rattle.text.specs.declared.TextError.{TextError}
+use Rattle.text.specs.declared.TextError.TheVariants.{TooShort, Malformed}
 use Rattle.text.specs.Decimal.{decimal_of, item_of}
 use Rattle.text.specs.Lines.{line_feed, row_items, coefficient_from, coefficients_line, output_lines, margin_line}
 
@@ -39,22 +39,27 @@ recovered_text b wrong margin s =
 abbrev pub refused_text : ℕ → ℕ → List ℕ
 refused_text number row = refused_label ++ decimal_of number ++ item_of row ++ line_feed
 
--- the text of an outcome, with this margin where it is recovered; nothing for an accepted job, which is neither recovered nor refused
-abbrev pub text_of : Bounds → Outcome → (margin : ℕ) → List ℕ → List ℕ
-text_of b Accepted margin s = []
-text_of b (Recovered bytes wrong) margin s = recovered_text b wrong margin s
-text_of b (Refused reason row) margin s = refused_text (refusal_number reason) row
+-- the text of a recovery, with this margin where it succeeds; nothing where there is none yet
+abbrev pub text_of : Bounds → Option (Result Recovered Refusal) → (margin : ℕ) → List ℕ → List ℕ
+text_of b None margin s = []
+text_of b (Some (Ok r)) margin s = recovered_text b r.wrong margin s
+text_of b (Some (Err e)) margin s = refused_text (refusal_number e.reason) e.row
 
 -- at most 4 outputs, and degrees of at most 31, as every job has
 abbrev pub fits_of : Bounds → Bool
 fits_of b = leb b.outputs 4 && leb b.dg 31 && leb (largest_bound b b.outputs) 31
 
 -- what the call answers, where the buffer has so many bytes
-abbrev pub written_of : Bounds → Outcome → (margin : ℕ) → List ℕ → ℕ → Written
+abbrev pub written_of : Bounds → Option (Result Recovered Refusal) → (margin : ℕ) → List ℕ → ℕ → Result ℕ TextError
 written_of b outcome margin s room =
-    cond (fits_of b) (cond (leb (length (text_of b outcome margin s)) room) (Bytes (length (text_of b outcome margin s))) TooShort) Malformed
+    cond (fits_of b) (cond (leb (length (text_of b outcome margin s)) room) (Ok (length (text_of b outcome margin s))) (Err TooShort)) (Err Malformed)
 
 -- what the buffer holds then: the text and, behind it, what it held before; all of that where there is no text or no room for it
-abbrev pub buffer_after : Bounds → Outcome → (margin : ℕ) → List ℕ → List ℕ → List ℕ
+abbrev pub buffer_after : Bounds → Option (Result Recovered Refusal) → (margin : ℕ) → List ℕ → List ℕ → List ℕ
 buffer_after b outcome margin s old =
     cond (fits_of b) (cond (leb (length (text_of b outcome margin s)) (length old)) (overwritten (text_of b outcome margin s) old) old) old
+
+-- what is printed of an error
+abbrev pub message_of : TextError → List ℕ
+message_of TooShort = codes "the buffer is shorter than the text"
+message_of Malformed = codes "no job has such bounds"

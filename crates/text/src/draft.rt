@@ -1,66 +1,79 @@
 // A text that is being made: bytes, labels and decimal numbers put one behind the other. What does not fit is dropped.
-ghost use Rattle.std.specs.Prelude.{ℕ, ◌<◌, ◌≡◌, [], ◌∷◌};
-ghost use Rattle.text.specs.Drafts.{held, extended, Spells};
-ghost use Rattle.text.specs.Decimal.{digits_within, item_of};
+ghost use Rattle.std.specs.Prelude.{◌≡◌, [], ◌∷◌};
+ghost use Rattle.text.specs.Drafts.{extended};
+ghost use Rattle.text.specs.Decimal.{decimal_of, item_of};
+
+use std::marker::Model;
 
 // Every text has fewer bytes.
 const ROOM: usize = 1280;
 
 // The first bytes are the text so far.
-#[derive(Clone, Copy)]
+#[derive(Drop)]
 pub struct Draft {
-    pub bytes: [u8; ROOM],
-    pub count: usize,
+    bytes: [u8; ROOM],
+    count: usize,
 }
 
-pub fn empty() -> Draft
-    ensures { Spells result [] }
-{
-    Draft {
-        bytes: [0u8; ROOM],
-        count: 0,
+// Clauses see the text so far.
+impl Model for Draft {
+    ghost use Rattle.std.specs.Prelude.{ℕ, ◌≤◌, List, take};
+    ghost use Rattle.text.specs.Drafts.{text_room};
+
+    ghost Value = { List ℕ };
+
+    ghost view = { λ d. take d.count d.bytes };
+
+    ghost invariant = { λ d. d.count ≤ text_room };
+}
+
+impl Draft {
+    pub fn new() -> Self
+        ensures { result ≡ [] }
+    {
+        Draft {
+            bytes: [0; ROOM],
+            count: 0,
+        }
     }
-}
 
-pub fn put_byte(draft: Draft, byte: u8) -> Draft
-    ensures { held result ≡ extended draft (byte ∷ []) }
-{
-    let at = draft.count;
-    if at < ROOM {
-        let mut bytes = draft.bytes;
-        bytes[at] = byte;
-        return Draft {
-            bytes: bytes,
-            count: at + 1,
-        };
+    pub fn put(&mut self, more: &[u8])
+        ensures { self.new ≡ extended self.old more.now }
+    {
+        let fits = more.len().min(ROOM - self.count);
+        let end = self.count + fits;
+        self.bytes[self.count..end].copy_from_slice(&more[..fits]);
+        self.count = end;
     }
-    draft
-}
 
-pub fn put_label(draft: Draft, label: &[u8]) -> Draft
-    ensures { held result ≡ extended draft label.now }
-{
-    let mut r = draft;
-    for k in 0..label.len() {
-        r = put_byte(r, label[k]);
+    pub fn put_byte(&mut self, byte: u8)
+        ensures { self.new ≡ extended self.old (byte ∷ []) }
+    {
+        self.put(&[byte]);
     }
-    r
-}
 
-// The number's decimal digits.
-pub fn put_decimal(draft: Draft, value: u32) -> Draft
-    ensures { (k : ℕ) → value < k → held result ≡ extended draft (digits_within k value) }
-{
-    if value < 10 {
-        return put_byte(draft, 48 + value as u8);
+    // The number's decimal digits.
+    // Kept: for all that its contract says `write!` may fail, and then nothing is known of the draft.
+    pub fn put_decimal(&mut self, value: u32)
+        ensures { self.new ≡ extended self.old (decimal_of value) }
+    {
+        if 9 < value {
+            self.put_decimal(value / 10);
+        }
+        self.put_byte(b'0' + (value % 10) as u8);
     }
-    let front = put_decimal(draft, value / 10);
-    put_byte(front, 48 + (value % 10) as u8)
-}
 
-// A space and a number.
-pub fn put_item(draft: Draft, value: u32) -> Draft
-    ensures { held result ≡ extended draft (item_of value) }
-{
-    put_decimal(put_byte(draft, 32), value)
+    // A space and a number.
+    pub fn put_item(&mut self, value: u32)
+        ensures { self.new ≡ extended self.old (item_of value) }
+    {
+        self.put_byte(b' ');
+        self.put_decimal(value);
+    }
+
+    pub fn as_bytes(&self) -> &[u8]
+        ensures { result.now ≡ self.now }
+    {
+        &self.bytes[..self.count]
+    }
 }

@@ -5,11 +5,11 @@ use Rattle.lane_combination.proofs.combine.Goals as goal
 
 pub product-requires : goal.product-requires
 product-requires c =
-    (splat_below c.loop-k.invariant (omega arith) c.requires.5, next_below c.loop-k.invariant (omega arith))
+    (splat_below c.loop-k.invariant (omega arith) c.requires.4, next_below c.loop-k.invariant (omega arith))
 
 pub product-requires-in-loop-k : goal.product-requires-in-loop-k
 product-requires-in-loop-k c =
-    (splat_below c.loop-k.invariant (omega arith) c.requires.6, lane_below c.loop-k.invariant (omega arith) (c.requires.4.below _))
+    (splat_below c.loop-k.invariant (omega arith) c.requires.5, lane_below c.loop-k.invariant (omega arith) (c.requires.3.below _))
 
 pub difference-requires : goal.difference-requires
 difference-requires c =
@@ -24,7 +24,7 @@ loop-k-preserved c =
     changing_next inv (omega arith) value
 
 pub loop-k-init : goal.loop-k-init
-loop-k-init c = changing_start c.requires.2 c.requires.3 (omega arith) (omega arith)
+loop-k-init c = changing_start c.args.m.now.alike c.requires.2 (omega arith) (omega arith)
 
 pub returns : goal.returns
 returns c = (refl, changing_end c.loop-k.invariant (omega arith))

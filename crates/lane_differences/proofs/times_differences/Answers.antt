@@ -5,8 +5,8 @@ use Rattle.lane_differences.proofs.times_differences.Goals as goal
 
 pub difference-d-requires : goal.difference-d-requires
 difference-d-requires c =
-    let x = splat_below c.loop-k.invariant (omega arith) c.requires.4 in
-    (lane_below c.loop-k.invariant (omega arith) (c.requires.3.below _), omega arith)
+    let x = splat_below c.loop-k.invariant (omega arith) c.requires.3 in
+    (lane_below c.loop-k.invariant (omega arith) (c.requires.2.below _), omega arith)
 
 pub product-requires : goal.product-requires
 product-requires c =
@@ -20,7 +20,7 @@ loop-k-preserved c =
     changing_next inv (omega arith) value
 
 pub loop-k-init : goal.loop-k-init
-loop-k-init c = changing_start c.requires.2 c.requires.5 (omega arith) (omega arith)
+loop-k-init c = changing_start c.args.m.now.alike c.requires.4 (omega arith) (omega arith)
 
 pub returns : goal.returns
 returns c = (refl, changing_end c.loop-k.invariant (omega arith))

@@ -5,7 +5,7 @@ use Rattle.lanes.proofs.Changes.{Changing}
 use Rattle.lane_differences.proofs.times_differences.Given as goal
 
 abbrev pub invariant-loop-k : goal.invariant-loop-k
-invariant-loop-k l = Changing l.ps l.start l.end (difference_lane l.ps l.vs l.xs l.x l.initial.a) l.initial.a l.k l.a
+invariant-loop-k l = Changing l.m.p l.start l.end (difference_lane l.m.p l.m.inverse l.xs l.x l.initial.a) l.initial.a l.k l.a
 
 abbrev pub decreases-loop-k : goal.decreases-loop-k
 decreases-loop-k l = l.end - l.k

@@ -4,7 +4,7 @@ use Rattle.lane_horner.proofs.horner.Goals as goal
 
 pub product-requires : goal.product-requires
 product-requires c =
-    (lane_below c.loop-k.invariant (omega arith) (c.requires.2.below _), next_below c.loop-k.invariant (omega arith))
+    (lane_below c.loop-k.invariant (omega arith) (c.requires.1.below _), next_below c.loop-k.invariant (omega arith))
 
 pub difference-requires : goal.difference-requires
 difference-requires c =
@@ -18,7 +18,7 @@ loop-k-preserved c =
     changing_next inv (omega arith) value
 
 pub loop-k-init : goal.loop-k-init
-loop-k-init c = changing_start c.requires.1 c.requires.3 (omega arith) (omega arith)
+loop-k-init c = changing_start c.args.m.now.alike c.requires.2 (omega arith) (omega arith)
 
 pub returns : goal.returns
 returns c = (omega arith, changing_end c.loop-k.invariant (omega arith))

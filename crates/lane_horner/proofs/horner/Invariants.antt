@@ -5,7 +5,7 @@ use Rattle.lanes.proofs.Changes.{Changing}
 use Rattle.lane_horner.proofs.horner.Given as goal
 
 abbrev pub invariant-loop-k : goal.invariant-loop-k
-invariant-loop-k l = Changing l.ps 0 l.end (horner_lane l.ps l.vs l.xs l.initial.a l.c) l.initial.a l.k l.a
+invariant-loop-k l = Changing l.m.p 0 l.end (horner_lane l.m.p l.m.inverse l.xs l.initial.a l.c) l.initial.a l.k l.a
 
 abbrev pub decreases-loop-k : goal.decreases-loop-k
 decreases-loop-k l = l.end - l.k

@@ -6,7 +6,7 @@ use Rattle.lane_linear.proofs.times_linear.Goals as goal
 
 pub product-requires : goal.product-requires
 product-requires c =
-    (splat_below c.loop-k.invariant.0 (omega arith) c.requires.3, next_below c.loop-k.invariant.0 (omega arith))
+    (splat_below c.loop-k.invariant.0 (omega arith) c.requires.2, next_below c.loop-k.invariant.0 (omega arith))
 
 pub difference-requires : goal.difference-requires
 difference-requires c =
@@ -22,7 +22,7 @@ loop-k-preserved c =
     (changing_next inv.0 (omega arith) value, rw add-one same, rw same (inv.0.residues.below _))
 
 pub loop-k-init : goal.loop-k-init
-loop-k-init c = (changing_start c.requires.1 c.requires.2 (omega arith) (omega arith), refl, omega (arith, c.requires.2.below 0))
+loop-k-init c = (changing_start c.args.m.now.alike c.requires.1 (omega arith) (omega arith), refl, omega (arith, c.requires.1.below 0))
 
 pub returns : goal.returns
 returns c = (omega arith, changing_end c.loop-k.invariant.0 (omega arith))

@@ -9,7 +9,7 @@ use Rattle.lane_linear.proofs.times_linear.Given as goal
 
 abbrev pub invariant-loop-k : goal.invariant-loop-k
 invariant-loop-k l =
-    Changing l.ps 0 l.end (linear_lane l.ps (record { form = get_or l.xs 0 0; low = get_or l.xl 0 0 }) l.initial.a) l.initial.a l.k l.a × (l.lower ≡ get_or (0 ∷ l.initial.a) l.k 0) × (l.lower < modulus_at l.ps)
+    Changing l.m.p 0 l.end (linear_lane l.m.p (record { form = get_or l.xs 0 0; low = get_or l.xl 0 0 }) l.initial.a) l.initial.a l.k l.a × (l.lower ≡ get_or (0 ∷ l.initial.a) l.k 0) × (l.lower < modulus_at l.m.p)
 
 abbrev pub decreases-loop-k : goal.decreases-loop-k
 decreases-loop-k l = l.end - l.k

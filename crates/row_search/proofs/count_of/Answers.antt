@@ -14,21 +14,21 @@ flag : (b : Bool) → bool_byte b ≡ one_if b
 flag true = refl
 flag false = refl
 
-pub loop-k-init : goal.loop-k-init
+pub loop-number-init : goal.loop-number-init
 unfolding count_below
-loop-k-init c = (omega arith, refl)
+loop-number-init c = refl
 
 pub overflow_add-count : goal.overflow_add-count
 overflow_add-count c =
     let test : ℕ → Bool = (λ j. eqb (get_or c.args.numbers.now j 0) c.args.x) in
-    omega (arith, (count_more _ test c.loop-k.invariant.1 (flag (test c.loop-k.k))).1)
+    omega (arith, (count_more _ test c.loop-number.invariant (flag (test c.loop-number.number-index))).1)
 
-pub loop-k-preserved : goal.loop-k-preserved
-loop-k-preserved c =
+pub loop-number-preserved : goal.loop-number-preserved
+loop-number-preserved c =
     let test : ℕ → Bool = (λ j. eqb (get_or c.args.numbers.now j 0) c.args.x) in
-    (omega arith, (count_more _ test c.loop-k.invariant.1 (flag (test c.loop-k.k))).0)
+    (count_more _ test c.loop-number.invariant (flag (test c.loop-number.number-index))).0
 
 pub returns : goal.returns
 returns c =
-    let e : c.loop-k.k ≡ 32 = omega (arith, c.loop-k.invariant.0) in
-    rw e at c.loop-k.invariant.1
+    let e : c.loop-number.number-index ≡ 32 = omega arith in
+    rw e at c.loop-number.invariant

@@ -1,25 +1,22 @@
-use mathlib.Core.Path.{refl, sym, ap₂, ◌∙◌}
-use mathlib.Core.Bool.{◌||◌}
-use borrow.Author.Tests.{le-leb, lt-leb}
-use native.Mathlib.Omega.{arith}
-use Rattle.lists.proofs.FirstBelow.{search_start, search_next, search_found, search_end}
+use borrow.Author.Tests.{tests}
+use mathlib.Core.Bool.{Bool, true, false, ◌||◌}
+use mathlib.Core.Path.{◌≡◌, ◌∙◌}
+use Prim.Native.Nat.{ℕ, ◌+◌, ◌*◌}
+use lib.Dec.{leb}
+use lib.ListN.{get_or}
+use Rattle.std.proofs.Common.{rules}
+use Rattle.std.proofs.lemmas.Iterator.{first_from_Range}
+use Rattle.lists.specs.Search.{first_below, any_below}
+use Rattle.lists.proofs.FirstBelow.{first_found}
 use Rattle.row_search.proofs.first_out_of_range.Goals as goal
 
-pub returns-then-p-points : goal.returns-then-p-points
-returns-then-p-points c = search_found _ c.loop-r.invariant (omega arith) (ap₂ ◌||◌ (le-leb _ _ c.if-p-points.true) refl)
-
-pub returns-then-value_out_of_range : goal.returns-then-value_out_of_range
-returns-then-value_out_of_range c =
-    let here = ap₂ ◌||◌ (lt-leb _ _ c.if-p-points.false) (sym c.value_out_of_range.ensures ∙ c.if-value_out_of_range.true) in
-    search_found _ c.loop-r.invariant (omega arith) here
-
-pub loop-r-preserved : goal.loop-r-preserved
-loop-r-preserved c =
-    let here = ap₂ ◌||◌ (lt-leb _ _ c.if-p-points.false) (sym c.value_out_of_range.ensures ∙ c.if-value_out_of_range.false) in
-    search_next _ c.loop-r.invariant (omega arith) here
-
-pub loop-r-init : goal.loop-r-init
-loop-r-init c = search_start _ _
-
 pub returns : goal.returns
-returns c = search_end _ c.loop-r.invariant (omega arith)
+returns c =
+    let points = c.args.points.now in
+    let values = c.args.values.now in
+    let too_large : ℕ → Bool = λ (r : ℕ). leb c.args.p (get_or points r 0) || any_below c.args.outputs (λ i. leb c.args.p (get_or values (r * 4 + i) 0)) in
+    let first : c.find.result ≡ first_below c.args.rows too_large =
+    first_found too_large c.args.rows c.find.result
+    (first_from_Range _ _ _ c.find.result (λ r. too_large r ≡ true) (λ r. too_large r ≡ false) c.find.ensures.ran (λ x q k. search (rules, tests)) (λ x q k. search (rules, tests))) in
+    let same : c.map.result ≡ c.find.result = search (rules, tests) in
+    same ∙ first

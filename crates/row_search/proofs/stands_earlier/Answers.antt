@@ -1,18 +1,18 @@
-use mathlib.Core.Path.{ap}
-use borrow.Author.Tests.{eq-eqb, ne_eqb}
+use borrow.Author.Tests.{tests}
+use mathlib.Core.Path.{◌∙◌}
 use native.Mathlib.Omega.{arith}
-use Rattle.lists.specs.Search.{is_found}
-use Rattle.lists.proofs.FirstBelow.{search_start, search_next, search_found, search_end}
+use Prim.Native.Nat.{ℕ}
+use lib.Dec.{eqb}
+use lib.ListN.{get_or, take}
+use Rattle.std.proofs.Common.{rules}
+use Rattle.std.proofs.lemmas.Iterator.{YieldsList-from_slice}
+use Rattle.std.proofs.lemmas.Iterator.Search.{any_from_yields_List}
+use Rattle.lists.proofs.Chains.{list_any-take}
 use Rattle.row_search.proofs.stands_earlier.Goals as goal
 
-pub loop-q-init : goal.loop-q-init
-loop-q-init c = search_start _ _
-
-pub returns-then-points-q : goal.returns-then-points-q
-returns-then-points-q c = ap is_found (search_found _ c.loop-q.invariant (omega arith) (eq-eqb _ _ c.if-points-q.true))
-
-pub loop-q-preserved : goal.loop-q-preserved
-loop-q-preserved c = search_next _ c.loop-q.invariant (omega arith) (ne_eqb _ _ c.if-points-q.false)
-
 pub returns : goal.returns
-returns c = ap is_found (search_end _ c.loop-q.invariant (omega arith))
+returns c =
+    let points = c.args.points.now in
+    let r : ℕ = c.args.r in
+    any_from_yields_List (λ (y : ℕ). eqb y (get_or points r 0)) _ _ c.any.result c.any.ensures.ran (YieldsList-from_slice (take r points) c.iter.ensures.rest) (λ x b q k. search (rules, tests))
+    ∙ list_any-take (λ y. eqb y (get_or points r 0)) points 0 r (omega arith)

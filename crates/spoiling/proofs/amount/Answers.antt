@@ -14,6 +14,3 @@ pub overflow_add-result : goal.overflow_add-result
 overflow_add-result c =
     let high : c.top_bits.result < 65536 = omega arith in
     record { fits = amount-fits _ _ _ high (lit< tt) }
-
-pub returns : goal.returns
-returns c = cc

@@ -1,4 +1,4 @@
-use Rattle.std.proofs.Common.{◌≡◌, lt_of_lt_of_le, arith, lit<}
+use Rattle.std.proofs.Common.{lt_of_lt_of_le, arith, lit<}
 use borrow.Author.Rules.{scaled_Fits}
 use Rattle.spoiling.proofs.Added.{chosen_row_below}
 use Rattle.spoiling.proofs.Storing.{spoiled_none, spoiled_more}
@@ -12,18 +12,13 @@ bounds-by-row c =
 pub offset_bounds-by-row : goal.offset_bounds-by-row
 offset_bounds-by-row c = scaled_Fits _ 32 4 (bounds-by-row c) (lit< tt)
 
-pub loop-j-preserved : goal.loop-j-preserved
-loop-j-preserved c =
+pub loop-preserved : goal.loop-preserved
+loop-preserved c =
     let pre = c.requires in (
       omega arith,
-      spoiled_more c.loop-j.invariant.1 pre.0 pre.1 c.next_word-word.ensures
+      spoiled_more c.loop.invariant.1 pre.0 pre.1 c.next_word-word.ensures
           c.chosen_row-row.ensures c.next_word-last.ensures c.amount.ensures,
     )
 
-pub returns : goal.returns
-returns c =
-    let all : c.loop-j.j ≡ c.args.count = omega arith in
-    rw (← all) c.loop-j.invariant.1.additions
-
-pub loop-j-init : goal.loop-j-init
-loop-j-init c = (omega arith, spoiled_none _ _ _)
+pub loop-init : goal.loop-init
+loop-init c = (omega arith, spoiled_none _ _ _)

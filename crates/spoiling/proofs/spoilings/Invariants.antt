@@ -4,8 +4,8 @@ use Rattle.field.specs.Primes.{modulus_of}
 use Rattle.spoiling.proofs.Storing.{Spoiled}
 use Rattle.spoiling.proofs.spoilings.Given as goal
 
-abbrev pub invariant-loop-j : goal.invariant-loop-j
-invariant-loop-j l = (l.j ≤ l.count) × Spoiled (modulus_of l.q) l.rows l.start l.j l.by l.last
+abbrev pub invariant-loop : goal.invariant-loop
+invariant-loop l = (l.counter ≤ l.count) × Spoiled (modulus_of l.q) l.rows l.start l.counter l.by l.last
 
-abbrev pub decreases-loop-j : goal.decreases-loop-j
-decreases-loop-j l = l.count - l.j
+abbrev pub decreases-loop : goal.decreases-loop
+decreases-loop l = l.count - l.counter

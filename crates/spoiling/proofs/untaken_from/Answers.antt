@@ -1,34 +1,38 @@
-use Rattle.std.proofs.Common.{◌≡◌, ◌+◌, ◌%◌, not, sym, ap, ◌∙◌, lt_of_lt_of_le, add-zero, mod-lt, mod-eq_of_lt, arith, lit<, eq-eqb, ne_eqb}
-use borrow.Author.Rules.{scaled_Fits}
-use Rattle.lists.specs.declared.Found.{Found}
-use Rattle.lists.proofs.FirstBelow.{search_start, search_next, search_found, search_end}
+-- What `find` finds among 0 .. rows - 1 is what the definition's search finds; where nothing is found, code and definition both say d.
+use Rattle.std.proofs.Common.{◌≡◌, ℕ, ◌+◌, ◌%◌, ◌<◌, ◌≤◌, Option, Some, None, get_or, eqb, not, refl, sym, ap, ◌∙◌, arith, rules, tests, unwrap_or, eq-eqb, ne_eqb}
+use Rattle.std.specs.Option.{MatchOption}
+use Rattle.std.proofs.lemmas.Iterator.{first_from_Range}
+use Rattle.lists.specs.Search.{first_below}
+use Rattle.lists.proofs.FirstBelow.{search_found, none_below}
 use Rattle.spoiling.specs.Spoiling.{number_in, untaken_from}
 use Rattle.spoiling.proofs.untaken_from.Goals as goal
 
-pub bounds-by-r : goal.bounds-by-r
-bounds-by-r c = lt_of_lt_of_le (mod-lt _ (omega arith)) c.requires.0
+-- the first k below n where x k is 0
+abbrev FirstZero : (n : ℕ) (x : ℕ → ℕ) → Option ℕ → Type 0
+FirstZero n x o = MatchOption o ((k : ℕ) → 0 ≤ k → k < n → x k ≡ 0 → ⊥) (λ i. (0 ≤ i) × (i < n) × (x i ≡ 0) × ((k : ℕ) → 0 ≤ k → k < i → x k ≡ 0 → ⊥))
 
-pub offset_bounds-by-r : goal.offset_bounds-by-r
-offset_bounds-by-r c = scaled_Fits _ 32 4 (bounds-by-r c) (lit< tt)
+is_first : (n : ℕ) (x : ℕ → ℕ) (o : Option ℕ) → FirstZero n x o → o ≡ first_below n (λ k. not (not (eqb (x k) 0)))
+is_first n x None none = sym (none_below _ n (λ i l. ap (λ b. not (not b)) (ne_eqb (x i) 0 (none i (omega arith) l))))
+is_first n x (Some i) found =
+    search_found _ (record { within = omega arith; none = none_below _ i (λ k l. ap (λ b. not (not b)) (ne_eqb (x k) 0 (found.3 k (omega arith) l))) })
+    found.1 (ap (λ b. not (not b)) (eq-eqb (x i) 0 found.2))
 
-pub returns-then-by-r-eq0 : goal.returns-then-by-r-eq0
-unfolding untaken_from
-returns-then-by-r-eq0 c =
-    let a = c.args in
-    let here = ap (λ b. not (not b)) (eq-eqb _ _ c.if-by-r-eq0.true) in
-    ap (λ (f : Found). (a.d + number_in f) % a.rows) (search_found _ c.loop-k.invariant (omega arith) here)
+first_within : (n : ℕ) (x : ℕ → ℕ) (o : Option ℕ) → FirstZero n x o → unwrap_or o 0 ≤ n
+first_within n x None none = omega arith
+first_within n x (Some i) found = omega arith
 
-pub loop-k-preserved : goal.loop-k-preserved
-loop-k-preserved c =
-    let here = ap (λ b. not (not b)) (ne_eqb _ _ c.if-by-r-eq0.false) in
-    search_next _ c.loop-k.invariant (omega arith) here
+number : (o : Option ℕ) → unwrap_or o 0 ≡ number_in o
+number None = refl
+number (Some i) = refl
+
+behind : (c : goal.After-unwrap_or-behind) → FirstZero c.args.rows (λ k. get_or c.args.by.now ((c.args.d + k) % c.args.rows) 0) c.find.result
+behind c =
+    let row : ℕ → ℕ = λ k. get_or c.args.by.now ((c.args.d + k) % c.args.rows) 0 in
+    first_from_Range _ _ _ _ (λ k. row k ≡ 0) (λ k. row k ≡ 0 → ⊥) c.find.ensures.ran (λ x q e. grind (arith, tests)) (λ x q e. (search rules, grind (arith, tests)))
+
+pub overflow_add-result : goal.overflow_add-result
+overflow_add-result c = let l = first_within _ _ _ (behind c) in omega (arith, c.unwrap_or-behind.ensures, l)
 
 pub returns : goal.returns
 unfolding untaken_from
-returns c =
-    let a = c.args in
-    let itself : (a.d + 0) % a.rows ≡ a.d = ap (λ x. x % a.rows) (add-zero a.d) ∙ mod-eq_of_lt (omega arith) in
-    sym itself ∙ ap (λ (f : Found). (a.d + number_in f) % a.rows) (search_end _ c.loop-k.invariant (omega arith))
-
-pub loop-k-init : goal.loop-k-init
-loop-k-init c = search_start _ _
+returns c = let found = c.unwrap_or-behind.ensures ∙ number c.find.result ∙ ap number_in (is_first _ _ _ (behind c)) in cc

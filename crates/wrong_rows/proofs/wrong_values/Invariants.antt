@@ -2,7 +2,7 @@
 use lib.ListN.{get_or}
 use mathlib.Core.Path.{◌≡◌}
 use mathlib.Core.Bool.{not}
-use Prim.Native.Nat.{◌+◌, ◌-◌, ◌*◌, ◌%◌, ◌≤◌}
+use Prim.Native.Nat.{◌+◌, ◌*◌, ◌%◌}
 use lib.Dec.{eqb}
 use Rattle.field.specs.Primes.{modulus_of}
 use Rattle.row_mask.specs.Word.{word_of}
@@ -10,7 +10,4 @@ use Rattle.wrong_rows.proofs.wrong_values.Given as goal
 
 abbrev pub invariant-loop-r : goal.invariant-loop-r
 invariant-loop-r l =
-    (l.r ≤ l.rows) × (l.word ≡ word_of l.r (λ j. not (eqb (get_or l.weights j 0 * get_or l.fs j 0) (get_or l.gs j 0 * get_or l.values (j * 4 + l.i) 0 % modulus_of l.q))))
-
-abbrev pub decreases-loop-r : goal.decreases-loop-r
-decreases-loop-r l = l.rows - l.r
+    l.word ≡ word_of l.r (λ j. not (eqb (get_or l.table.weights j 0 * get_or l.fs j 0) (get_or l.gs j 0 * get_or l.table.values (j * 4 + l.i) 0 % modulus_of l.b.prime)))

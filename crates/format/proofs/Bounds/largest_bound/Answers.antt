@@ -1,23 +1,24 @@
-use Prim.Native.Nat.{suc, ◌+◌}
+use Prim.Native.Nat.{suc, ◌+◌, ◌<◌}
 use mathlib.Core.Path.{◌≡◌, refl, ap, ◌∙◌}
 use native.Mathlib.Omega.{arith}
+use Rattle.std.proofs.lemmas.List.{get_or-take, length-take}
 use Rattle.format.specs.Bounds.{largest_bound}
 use Rattle.format.proofs.Bounds.largest_bound.Goals as goal
 
-pub loop-i-init : goal.loop-i-init
+pub loop-bound-init : goal.loop-bound-init
 unfolding largest_bound
-loop-i-init c = (omega arith, refl)
+loop-bound-init c = refl
 
-pub loop-i-preserved : goal.loop-i-preserved
+pub loop-bound-preserved : goal.loop-bound-preserved
 unfolding largest_bound
-loop-i-preserved c =
-    let next : c.loop-i.i + 1 ≡ suc c.loop-i.i = omega arith in
-    (omega arith, rw next cc)
+loop-bound-preserved c =
+    let i = c.loop-bound.bound-index in
+    let below : i < c.args.n = omega (arith, length-take c.args.n c.args.self.numerators) in
+    let item = get_or-take c.args.n c.args.self.numerators i 0 below in
+    let next : i + 1 ≡ suc i = omega arith in
+    rw next cc
 
 pub returns : goal.returns
 returns c =
-    let all : c.loop-i.i ≡ c.args.n = omega arith in
-    c.loop-i.invariant.1 ∙ ap (largest_bound c.args.self) all
-
-pub numerator_bound-requires : goal.numerator_bound-requires
-numerator_bound-requires c = omega (arith, c.requires)
+    let all : c.loop-bound.bound-index ≡ c.args.n = omega (arith, length-take c.args.n c.args.self.numerators) in
+    c.loop-bound.invariant ∙ ap (largest_bound c.args.self) all

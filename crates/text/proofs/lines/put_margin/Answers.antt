@@ -1,15 +1,12 @@
 -- Label, number and line feed are put one behind the other (`put_both`).
-use mathlib.Core.List.{◌++◌}
-use Rattle.text.specs.Drafts.{held}
+use Rattle.std.proofs.Common.{◌++◌}
 use Rattle.text.specs.Decimal.{item_of}
 use Rattle.text.specs.Lines.{line_feed, margin_label}
 use Rattle.text.proofs.Puts.{put_both}
 use Rattle.text.proofs.lines.put_margin.Goals as goal
 
--- SPEC HAS 5 ARGUMENTS, 4 NEEDS
-
 pub returns : goal.returns
 returns c =
-    let draft = held c.args.draft in
-    let two = put_both draft margin_label (item_of c.args.margin) c.put_label-named.ensures c.put_item.ensures in
-    put_both draft (margin_label ++ item_of c.args.margin) line_feed two c.put_byte.ensures
+    let draft = c.args.draft.now in
+    let number = item_of c.args.margin in
+    put_both draft (margin_label ++ number) line_feed (put_both draft margin_label number c.put.ensures c.put_item.ensures) c.put_byte.ensures

@@ -1,5 +1,0 @@
--- By recursion on the number.
-use Rattle.text.proofs.draft.+put_decimal.Given as goal
-
-abbrev pub decreases-put_decimal : goal.decreases-put_decimal
-decreases-put_decimal l = l.value

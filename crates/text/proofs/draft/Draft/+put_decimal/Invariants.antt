@@ -1,0 +1,5 @@
+-- By recursion on the number.
+use Rattle.text.proofs.draft.Draft.+put_decimal.Given as goal
+
+abbrev pub decreases-put_decimal : goal.decreases-put_decimal
+decreases-put_decimal l = l.value
