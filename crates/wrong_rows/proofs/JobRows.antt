@@ -14,15 +14,14 @@ use Rattle.format.specs.declared.Bounds.{Bounds}
 use Rattle.format.specs.Bounds.{prime_of}
 use Rattle.poly.specs.Operations.{value_of}
 use Rattle.poly.proofs.Values.{value_below}
-use Rattle.lists.specs.declared.Found.{Found}
-use Rattle.lists.specs.declared.Found.TheVariants.{At, Nothing}
+use Rattle.std.specs.Prelude.{Option, Some, None}
 use Rattle.lists.specs.Search.{first_below, any_below, or_else, if_holds, is_found}
 use Rattle.lists.proofs.FirstBelow.{any_passes, none_below, first_cong}
 use Rattle.header.specs.Header.{bounds_of}
 use Rattle.header.proofs.Fields.{fits_fields}
 use Rattle.rows.specs.Rows.{job_point, job_value}
 use Rattle.marked_rows.specs.declared.Mark.{Mark}
-use Rattle.marked_rows.specs.declared.Mark.TheVariants.{None, Pole, Silent}
+use Rattle.marked_rows.specs.declared.Mark.TheVariants.{Pole, Silent}
 use Rattle.marked_rows.specs.Marks.{mark_at}
 use Rattle.marked_rows.specs.Table.{weight_of, right_side_of, job_points, job_weights, job_values}
 use Rattle.marked_rows.proofs.Entries.{points_at, weights_at, values_at}
@@ -46,12 +45,12 @@ module _ (p c x : ℕ) (y : ℕ → ℕ) (f : ℕ → List ℕ) (g : List ℕ) w
   fails_any zero = refl
   fails_any (suc n) = by (meets_output p c x g (f n) (y n)) (first_below n (λ i. not (meets_output p c x g (f i) (y i)))) (fails_any n)
     where
-      by : (met : Bool) (before : Found) → fails_row p n c x y f g ≡ is_found before
+      by : (met : Bool) (before : Option ℕ) → fails_row p n c x y f g ≡ is_found before
           → cond met (fails_row p n c x y f g) true ≡ is_found (or_else before (if_holds (not met) n))
-      by true (At i) e = e
-      by true Nothing e = e
-      by false (At i) e = refl
-      by false Nothing e = refl
+      by true (Some i) e = e
+      by true None e = e
+      by false (Some i) e = refl
+      by false None e = refl
 
   -- a row does not fail exactly if every output meets its condition
   pub conditions_met : (n : ℕ) → fails_row p n c x y f g ≡ false → (i : ℕ) → i < n → c * value_of p x (f i) ≡ value_of p x g * y i % p
@@ -101,12 +100,12 @@ module _ (p x : ℕ) (f : ℕ → List ℕ) (g : List ℕ) where
       by (suc n) true e = ap (λ v. cond (eqb v (value_of p x g * y % p)) (fails_row p n 0 x (λ i. y) f g) true) (zero-mul _) ∙ rw e (by n true e)
 
   -- by the row's mark
-  fails_verdict : 0 < p → (m : Mark) (n : ℕ) (y : ℕ → ℕ) → fails_row p (suc n) (weight_of m) x (λ i. right_side_of m (y i)) f g ≡ is_wrong (verdict_of m p (suc n) x y f g)
+  fails_verdict : 0 < p → (m : Option Mark) (n : ℕ) (y : ℕ → ℕ) → fails_row p (suc n) (weight_of m) x (λ i. right_side_of m (y i)) f g ≡ is_wrong (verdict_of m p (suc n) x y f g)
   fails_verdict positive None n y = fails_unmarked (suc n) y ∙ sym (unmarked_verdict p (suc n) x y f g refl)
-  fails_verdict positive Pole n y =
+  fails_verdict positive (Some Pole) n y =
       let value : value_of p x g * 1 % p ≡ value_of p x g = ap (λ v. v % p) (mul-one _) ∙ mod-eq_of_lt (value_below p x g positive) in
       fails_marked n 1 ∙ ap not (ap (eqb 0) value ∙ zero_first (value_of p x g)) ∙ sym (pole_verdict p (suc n) x y f g refl)
-  fails_verdict positive Silent n y = fails_marked n 0 ∙ ap (λ v. not (eqb 0 v)) (ap (λ v. v % p) (mul-zero (value_of p x g)) ∙ zero-mod p)
+  fails_verdict positive (Some Silent) n y = fails_marked n 0 ∙ ap (λ v. not (eqb 0 v)) (ap (λ v. v % p) (mul-zero (value_of p x g)) ∙ zero-mod p)
 
 -- a row of the arrays is wrong exactly if that row of the job is
 pub same_wrong : (s : List ℕ) (f : ℕ → List ℕ) (g : List ℕ) (r : ℕ) → r < (bounds_of s).rows
