@@ -17,7 +17,7 @@ use Rattle.marked_rows.specs.declared.Table.{Table}
 use Rattle.header.specs.Header.{bounds_of, header_of, rows_needed_of}
 use Rattle.rows.specs.Rows.{job_point, job_value}
 use Rattle.marked_rows.specs.declared.Mark.{Mark}
-use Rattle.marked_rows.specs.declared.Mark.TheVariants as mark
+use Rattle.marked_rows.specs.declared.Mark.TheVariants.{Pole, Silent}
 use Rattle.marked_rows.specs.Marks.{mark_at, is_unmarked, speaking_count}
 use Rattle.marked_rows.specs.Table.{right_side_of, job_points, job_weights, job_values}
 use Rattle.job.specs.Refusals.{out_of_range, repeated_point, row_tests}
@@ -30,8 +30,8 @@ use Rattle.marked_rows.proofs.Entries.{points_at, values_at}
 -- what stands for the values of a marked row is below p
 pub values_in_table : (m : Option Mark) (p n : ℕ) (y : ℕ → ℕ) → 2 ≤ p → any_below n (λ i. leb p (right_side_of m (y i))) ≡ (is_unmarked m && any_below n (λ i. leb p (y i)))
 values_in_table None p n y two = refl
-values_in_table (Some mark.Pole) p n y two = ap is_found (none_below _ n (λ i l. lt-leb p 1 (omega arith)))
-values_in_table (Some mark.Silent) p n y two = ap is_found (none_below _ n (λ i l. lt-leb p 0 (omega arith)))
+values_in_table (Some Pole) p n y two = ap is_found (none_below _ n (λ i l. lt-leb p 1 (omega arith)))
+values_in_table (Some Silent) p n y two = ap is_found (none_below _ n (λ i l. lt-leb p 0 (omega arith)))
 
 module _ (s : List ℕ) where
   out_of_range-same : first_below (bounds_of s).rows

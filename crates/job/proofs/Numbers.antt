@@ -1,4 +1,4 @@
--- The tests before 8 answer with Accepted, or with a refusal numbered 1, 11, 12 or 3 to 7; where the area is as long as the answer, 7 is none.
+-- The tests before 8 refuse nothing, or answer with a refusal numbered 1, 11, 12 or 3 to 7; where the area is as long as the answer, 7 is none.
 use mathlib.Core.Path.{◌≡◌, ap, ◌∙◌}
 use mathlib.Core.Logic.{◌⊎◌, inl, inr}
 use mathlib.Core.Bool.{Bool, true, false}
@@ -16,7 +16,7 @@ use Rattle.header.specs.Header.{bounds_of}
 use Rattle.job.specs.Refusals.{area_too_short, refuse, outcome_of}
 use Rattle.job.proofs.Forms.{Given, ByForm, by_form, long_enough}
 
--- (Ok tt), or a refusal numbered below m, or 11 or 12
+-- no refusal, or one numbered below m, or 11 or 12
 abbrev pub EarlyBelow : ℕ → Result (Unit {0}) Refusal → Type 0
 EarlyBelow m o = (o ≡ Ok tt) ⊎ Given m (check_report_of o).refusal
 
