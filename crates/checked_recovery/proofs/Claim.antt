@@ -6,12 +6,12 @@ use mathlib.Core.List.{List}
 use Prim.Native.Nat.{ℕ, ◌<◌}
 use borrow.Author.Tests.{ltb-true}
 use lib.ListN.{length}
+use Rattle.std.specs.Prelude.{Result, Ok}
 use Rattle.format.specs.Bounds.{answer_length_of}
 use Rattle.format.specs.declared.Reason.TheVariants.{AreaTooShort}
 use Rattle.format.specs.declared.Report.{Report}
-use Rattle.format.specs.declared.Outcome.{Outcome}
-use Rattle.format.specs.declared.Outcome.TheVariants.{Accepted}
-use Rattle.format.specs.Outcomes.{report_of, refused_report}
+use Rattle.format.specs.declared.Refusal.{Refusal}
+use Rattle.format.specs.Outcomes.{check_report_of, refused_report}
 use Rattle.header.specs.Header.{bounds_of}
 use Rattle.job.specs.Refusals.{area_too_short, refuse, outcome_of}
 use Rattle.job.specs.Form.{form_outcome_of}
@@ -21,13 +21,13 @@ use Rattle.lists.specs.Search.{if_holds}
 use Rattle.recovery.specs.Recovery.{RefusedEarly, Answered, RefusedUnsolvable, Settled}
 use Rattle.checked_recovery.specs.CheckedRecovery.{CheckedRecovery}
 
-module _ (s : List ℕ) {c : Outcome} (C : c ≡ form_outcome_of s) (area : List ℕ) {r : Report} {after : List ℕ} (S : Settled s area r after) where
+module _ (s : List ℕ) {c : Result (Unit {0}) Refusal} (C : c ≡ form_outcome_of s) (area : List ℕ) {r : Report} {after : List ℕ} (S : Settled s area r after) where
   -- a job that a test before 7 refuses
-  early : {o : Outcome} → (o ≡ Accepted → ⊥) → outcome_of s (length area) ≡ o → (r ≡ report_of o) × (after ≡ area)
+  early : {o : Result (Unit {0}) Refusal} → (o ≡ Ok tt → ⊥) → outcome_of s (length area) ≡ o → (r ≡ check_report_of o) × (after ≡ area)
   early {o} not e = by S.cases
     where
-      by : RefusedEarly s area r after ⊎ (Answered s area r after ⊎ RefusedUnsolvable s area r after) → (r ≡ report_of o) × (after ≡ area)
-      by (inl h) = (h.report ∙ ap report_of e, h.untouched)
+      by : RefusedEarly s area r after ⊎ (Answered s area r after ⊎ RefusedUnsolvable s area r after) → (r ≡ check_report_of o) × (after ≡ area)
+      by (inl h) = (h.report ∙ ap check_report_of e, h.untouched)
       by (inr (inl h)) = absurd (not (sym e ∙ h.well_formed))
       by (inr (inr h)) = absurd (not (sym e ∙ h.well_formed))
 
@@ -39,8 +39,8 @@ module _ (s : List ℕ) {c : Outcome} (C : c ≡ form_outcome_of s) (area : List
   later e = by S.cases
     where
       seven : (b : Bool) → area_too_short s (length area) ≡ b → RefusedEarly s area r after → Later
-      seven true short h = inr (inl (ltb-true _ _ short, h.report ∙ ap report_of (e ∙ ap (λ (x : Bool). refuse AreaTooShort (if_holds x 0) Accepted) short)))
-      seven false long h = absurd (h.malformed (e ∙ ap (λ (x : Bool). refuse AreaTooShort (if_holds x 0) Accepted) long))
+      seven true short h = inr (inl (ltb-true _ _ short, h.report ∙ ap check_report_of (e ∙ ap (λ (x : Bool). refuse AreaTooShort (if_holds x 0) (Ok tt)) short)))
+      seven false long h = absurd (h.malformed (e ∙ ap (λ (x : Bool). refuse AreaTooShort (if_holds x 0) (Ok tt)) long))
 
       by : RefusedEarly s area r after ⊎ (Answered s area r after ⊎ RefusedUnsolvable s area r after) → Later
       by (inl h) = seven (area_too_short s (length area)) refl h
@@ -56,7 +56,7 @@ module _ (s : List ℕ) {c : Outcome} (C : c ≡ form_outcome_of s) (area : List
           let alike = early refused_not_accepted h.4 in record {
             first = C;
             second = S;
-            refused = λ reason row e. (alike.0 ∙ ap report_of (sym form ∙ e), alike.1);
+            refused = λ reason row e. (alike.0 ∙ ap check_report_of (sym form ∙ e), alike.1);
             accepted = λ e. absurd (refused_not_accepted (sym form ∙ e));
           }
       by (inr h) = record {

@@ -4,13 +4,13 @@
 ghost use Rattle.format.specs.Outcomes.{report_of};
 ghost use Rattle.checked_recovery.specs.CheckedRecovery.{CheckedRecovery};
 
-use format::Outcome;
+use format::{Recovered, Refusal};
 
 // What two calls returned.
 #[derive(Clone, Copy)]
 pub struct CheckAndRecovery {
-    pub form: Outcome,
-    pub recovery: Outcome,
+    pub form: Result<(), Refusal>,
+    pub recovery: Result<Recovered, Refusal>,
 }
 
 // Checks a job for form, and recovers it into the area.

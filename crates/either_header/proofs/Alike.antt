@@ -6,11 +6,11 @@ use mathlib.Core.Logic.{◌⊎◌, inl, inr}
 use mathlib.Core.Path.{◌≡◌, refl, sym, ap, ap₂, fun_ext, subst, ◌∙◌}
 use lib.ListN.{length}
 use Rattle.format.specs.declared.Bounds.{Bounds}
-use Rattle.format.specs.declared.Outcome.{Outcome}
-use Rattle.format.specs.declared.Outcome.TheVariants.{Accepted, Recovered, Refused}
+use Rattle.std.specs.Prelude.{Result, Ok, Err}
+use Rattle.format.specs.declared.Refusal.{Refusal}
 use Rattle.format.specs.declared.Report.{Report}
 use Rattle.format.specs.Bounds.{prime_of, answer_length_of}
-use Rattle.format.specs.Outcomes.{report_of, recovered_report}
+use Rattle.format.specs.Outcomes.{check_report_of, recovered_report}
 use Rattle.header.specs.Header.{bounds_of}
 use Rattle.rows.specs.Rows.{number_at}
 use Rattle.job.specs.Form.{form_outcome_of}
@@ -77,7 +77,7 @@ module _ (s s' : List ℕ) (J : SameJob s s') where
           → RefusedEarly s area r after ⊎ (Answered s area r after ⊎ RefusedUnsolvable s area r after)
       by (inl e) = inl (record {
         malformed = λ wf. e.malformed (outcome (length area) ∙ wf);
-        report = e.report ∙ ap report_of (outcome (length area));
+        report = e.report ∙ ap check_report_of (outcome (length area));
         untouched = e.untouched;
       })
       by (inr (inl A)) = inr (inl (record {
@@ -103,10 +103,9 @@ module _ (s s' : List ℕ) (J : SameJob s s') where
       same : form_outcome_of s' ≡ form_outcome_of s
       same = form_with_room s' ∙ outcome 254 ∙ sym (form_with_room s)
 
-      by : (o : Outcome) → margin_by o s' wrong ≡ margin_by o s wrong
-      by Accepted = rw (speaking-same s s' J, df_same s s' J, bounds) refl
-      by (Recovered bytes counted) = refl
-      by (Refused reason row) = refl
+      by : (o : Result (Unit {0}) Refusal) → margin_by o s' wrong ≡ margin_by o s wrong
+      by (Ok _) = rw (speaking-same s s' J, df_same s s' J, bounds) refl
+      by (Err _) = refl
 
 -- the claim
 pub either_header : (s area s' area' : List ℕ) {r r' : Report} {after after' : List ℕ} → Settled s area r after → Settled s' area' r' after'

@@ -16,7 +16,7 @@ use Rattle.header.specs.Header.{df_of, header_length_of, spare_bit_of, flags_of,
 use Rattle.header_rules.specs.Rules.{too_short, bounds_absent, added_header_broken}
 use Rattle.rows.specs.Rows.{number_at, job_point, job_value}
 use Rattle.lists.proofs.Counting.{count_all}
-use Rattle.marked_rows.specs.declared.Mark.TheVariants.{None}
+use Rattle.std.specs.Prelude.{None}
 use Rattle.marked_rows.specs.Marks.{mark_at, is_unmarked, speaking, speaks, speaking_count}
 use Rattle.marked_rows.proofs.Marks.{unmarked_if_not_allowed}
 use Rattle.job.specs.Refusals.{byte_count_differs, too_few_rows, too_few_speaking, out_of_range, refuse, outcome_of_rows, outcome_of}

@@ -1,11 +1,11 @@
 -- Paper 01's header by itself, where "one spare bit that is 0" ends it: its "24 bits" as one number, most significant bit first, and what a job with
 -- that header says by it.
-use Rattle.std.specs.Prelude.{◌≡◌, cond, not, List, ℕ, ◌+◌, ◌*◌, ◌/◌, ◌%◌, ◌^◌, ltb, eqb, length, get_or}
+use Rattle.std.specs.Prelude.{◌≡◌, cond, not, List, ℕ, ◌+◌, ◌*◌, ◌/◌, ◌%◌, ◌^◌, ltb, eqb, length, get_or, Result}
 use Rattle.lists.specs.Tabulated.{tabulate}
 use Rattle.field.specs.Primes.{prime_of_code}
 use Rattle.format.specs.declared.Bounds.{Bounds}
 use Rattle.format.specs.declared.Reason.TheVariants.{TooShort, ByteCount, TooFewRows}
-use Rattle.format.specs.declared.Outcome.{Outcome}
+use Rattle.format.specs.declared.Refusal.{Refusal}
 use Rattle.format.specs.Numbers.{number_from}
 use Rattle.lists.specs.Search.{if_holds}
 use Rattle.header.specs.Header.{bounds_of}
@@ -41,7 +41,7 @@ abbrev pub short_number : List ℕ → ℕ → ℕ → ℕ
 short_number s r c = number_from s (3 + 2 * (r * (1 + short_outputs s) + c))
 
 -- tests 1 and 3 to 7 of paper 01's table
-abbrev pub short_outcome : (s : List ℕ) (b : Bounds) (area : ℕ) → Outcome
+abbrev pub short_outcome : (s : List ℕ) (b : Bounds) (area : ℕ) → Result (Unit {0}) Refusal
 short_outcome s b area =
     refuse TooShort (if_holds (ltb (length s) 3) 0)
     (refuse ByteCount (if_holds (not (eqb (length s) (3 + 2 * b.rows * (1 + b.outputs)))) 0)

@@ -1,10 +1,9 @@
 -- Paper 02, item 6: "Without the flag 01's reading holds." What a job whose first flag bit is not set, with either header, says by that reading. b are its
 -- bounds, and n r c is the number in row r and column c, where column 0 is the point.
-use Rattle.std.specs.Prelude.{◌≡◌, Bool, not, ◌&&◌, ◌||◌, List, ℕ, ◌+◌, ltb, leb, eqb}
+use Rattle.std.specs.Prelude.{◌≡◌, Bool, not, ◌&&◌, ◌||◌, List, ℕ, ◌+◌, ltb, leb, eqb, Result, Ok}
 use Rattle.format.specs.declared.Bounds.{Bounds}
 use Rattle.format.specs.declared.Reason.TheVariants.{TooShort, AddedHeader, ByteCount, TooFewRows, OutOfRange, RepeatedPoint, AreaTooShort}
-use Rattle.format.specs.declared.Outcome.{Outcome}
-use Rattle.format.specs.declared.Outcome.TheVariants.{Accepted}
+use Rattle.format.specs.declared.Refusal.{Refusal}
 use Rattle.format.specs.Bounds.{prime_of, largest_bound, answer_length_of}
 use Rattle.lists.specs.Search.{if_holds, first_below, any_below}
 use Rattle.header.specs.Header.{df_of, header_length_of, flags_of, bounds_of}
@@ -15,11 +14,11 @@ use Rattle.problem.specs.Rows.{wrong_row}
 use Rattle.problem.specs.Answers.{wrong_at}
 
 -- tests 5 to 7 of paper 01's table: "a point or value is p or more", "a point stands in an earlier row", "answer area shorter than the sheet needs"
-abbrev pub plain_row_tests : (b : Bounds) (n : ℕ → ℕ → ℕ) (area : ℕ) → Outcome
+abbrev pub plain_row_tests : (b : Bounds) (n : ℕ → ℕ → ℕ) (area : ℕ) → Result (Unit {0}) Refusal
 plain_row_tests b n area =
     refuse OutOfRange (first_below b.rows (λ r. leb (prime_of b) (n r 0) || any_below b.outputs (λ i. leb (prime_of b) (n r (1 + i)))))
     (refuse RepeatedPoint (first_below b.rows (λ r. any_below r (λ q. eqb (n q 0) (n r 0))))
-    (refuse AreaTooShort (if_holds (ltb area (answer_length_of b)) 0) Accepted))
+    (refuse AreaTooShort (if_holds (ltb area (answer_length_of b)) 0) (Ok tt)))
 
 -- row r is wrong, its values being numbers
 abbrev pub plain_wrong : (b : Bounds) (n : ℕ → ℕ → ℕ) (f : ℕ → List ℕ) (g : List ℕ) (r : ℕ) → Bool
@@ -32,7 +31,7 @@ item5_broken s =
     && (not (eqb (flags_of s) 0) || bounds_absent (bounds_of s) || not (eqb (df_of s) (largest_bound (bounds_of s) (bounds_of s).outputs)))
 
 -- tests 1, 11, 3, 4, 5, 6 and 7 in this order
-abbrev pub item5_outcome : List ℕ → ℕ → Outcome
+abbrev pub item5_outcome : List ℕ → ℕ → Result (Unit {0}) Refusal
 item5_outcome s area =
     refuse TooShort (if_holds (too_short s) 0)
     (refuse AddedHeader (if_holds (item5_broken s) 0)

@@ -4,13 +4,13 @@
 ghost use Rattle.format.specs.Outcomes.{report_of};
 ghost use Rattle.either_header.specs.EitherHeader.{EitherHeader};
 
-use format::Outcome;
+use format::{Recovered, Refusal};
 
 // What two calls returned.
 #[derive(Clone, Copy)]
 pub struct HeaderRecoveries {
-    pub short: Outcome,
-    pub longer: Outcome,
+    pub short: Result<Recovered, Refusal>,
+    pub longer: Result<Recovered, Refusal>,
 }
 
 // Recovers a job with the short header and one with the longer header, each by a call of its own.

@@ -6,8 +6,7 @@ use mathlib.Core.Bool.{Bool, true, false, not, ◌&&◌}
 use Prim.Native.Nat.{ℕ, zero, suc, ◌+◌, ◌≤◌, ◌<◌}
 use native.Mathlib.Omega.{arith}
 use Rattle.lists.proofs.Truth.{never_true}
-use Rattle.lists.specs.declared.Found.{Found}
-use Rattle.lists.specs.declared.Found.TheVariants.{At, Nothing}
+use Rattle.std.specs.Prelude.{Option, Some, None}
 use Rattle.lists.specs.Search.{first_below, any_below, is_found, or_else}
 use Rattle.lists.proofs.FirstBelow.{none_below}
 use Rattle.lists.specs.Counting.{one_if, count_below}
@@ -18,17 +17,17 @@ any_more : (n : ℕ) (test : ℕ → Bool) → test n ≡ false → any_below (s
 unfolding first_below
 any_more n test e = rw e (by (first_below n test))
   where
-    by : (f : Found) → is_found (or_else f Nothing) ≡ is_found f
-    by (At i) = refl
-    by Nothing = refl
+    by : (f : Option ℕ) → is_found (or_else f None) ≡ is_found f
+    by (Some i) = refl
+    by None = refl
 
 any_here : (n : ℕ) (test : ℕ → Bool) → test n ≡ true → any_below (suc n) test ≡ true
 unfolding first_below
 any_here n test e = rw e (by (first_below n test))
   where
-    by : (f : Found) → is_found (or_else f (At n)) ≡ true
-    by (At i) = refl
-    by Nothing = refl
+    by : (f : Option ℕ) → is_found (or_else f (Some n)) ≡ true
+    by (Some i) = refl
+    by None = refl
 
 -- a number below n passes the test, or none does
 pub passes_or_none : (n : ℕ) (test : ℕ → Bool) → ((i : ℕ) × (i < n) × (test i ≡ true)) ⊎ (any_below n test ≡ false)

@@ -7,13 +7,12 @@ use native.Mathlib.Omega.{arith}
 use borrow.Author.Tests.{ltb-true, not-false}
 use lib.Dec.{ltb}
 use lib.ListN.{get_or, length}
+use Rattle.std.specs.Prelude.{None, Ok}
 use Rattle.lists.specs.Tabulated.{tabulate}
 use Rattle.format.specs.Bounds.{largest_bound, numerator_count}
-use Rattle.format.specs.declared.Outcome.TheVariants.{Accepted}
 use Rattle.poly.specs.Operations.{value_of}
 use Rattle.cursor.specs.Bits.{field_of}
 use Rattle.header.specs.Header.{outputs_of, df_of, spare_bit_of, numerator_bounds_of, flags_of, bounds_of}
-use Rattle.lists.specs.declared.Found.TheVariants.{Nothing}
 use Rattle.lists.specs.Search.{first_below}
 use Rattle.lists.proofs.FirstBelow.{none_passes}
 use Rattle.rows.specs.Rows.{number_at}
@@ -49,7 +48,7 @@ pairs_alike = ((refl, refl), (refl, refl), (refl, refl), (refl, refl))
 
 comparable : {Holds : List ℕ → List ℕ → Type 0} {room : ℕ} {f : ℕ → List ℕ} {g : List ℕ} (s s' : List ℕ)
     → Alike s s'
-    → outcome_of s' room ≡ Accepted
+    → outcome_of s' room ≡ Ok tt
     → Holds s s'
     → Meets s' f g
     → (area' : List ℕ)
@@ -58,21 +57,21 @@ comparable : {Holds : List ℕ → List ℕ → Type 0} {room : ℕ} {f : ℕ �
 comparable s s' alike well_formed holds meets area' n = record {
   prime = alike.0;
   outputs = alike.1;
-  well_formed = subst (λ room. outcome_of s' room ≡ Accepted) (sym n) well_formed;
+  well_formed = subst (λ room. outcome_of s' room ≡ Ok tt) (sym n) well_formed;
   holds = holds;
   meets = meets;
 }
 
 -- all jobs are well formed
-pub jobs_well_formed : (outcome_of smaller_job 10 ≡ Accepted) × (outcome_of larger_job 12 ≡ Accepted) × (outcome_of silent_job 10 ≡ Accepted)
-    × (outcome_of marked_job 10 ≡ Accepted) × (outcome_of pole_job 12 ≡ Accepted) × (outcome_of pole_larger_job 12 ≡ Accepted)
+pub jobs_well_formed : (outcome_of smaller_job 10 ≡ Ok tt) × (outcome_of larger_job 12 ≡ Ok tt) × (outcome_of silent_job 10 ≡ Ok tt)
+    × (outcome_of marked_job 10 ≡ Ok tt) × (outcome_of pole_job 12 ≡ Ok tt) × (outcome_of pole_larger_job 12 ≡ Ok tt)
 unfolding outcome_of outcome_of_rows tabulate largest_bound numerator_count field_of outputs_of df_of spare_bit_of numerator_bounds_of flags_of bounds_of first_below number_at mark_of
     speaking_count count_below
 jobs_well_formed = (refl, refl, refl, refl, refl, refl)
 
 -- T' holds the rows of T that pass, at the given places, where a search finds no other
 held : (s s' : List ℕ) (pass : ℕ → Bool) (places : List ℕ)
-    → first_below (bounds_of s).rows (λ i. pass i && not (ltb (get_or places i 0) (bounds_of s').rows && same_bytes (row_bytes s' (get_or places i 0)) (row_bytes s i))) ≡ Nothing
+    → first_below (bounds_of s).rows (λ i. pass i && not (ltb (get_or places i 0) (bounds_of s').rows && same_bytes (row_bytes s' (get_or places i 0)) (row_bytes s i))) ≡ None
     → (i : ℕ) → i < (bounds_of s).rows → pass i ≡ true → (j : ℕ) × (j < (bounds_of s').rows) × StandsAt s i s' j
 held s s' pass places e i l p =
     let there = (and-eq-true_iff _ _).0 (not-false _ (rw p at (none_passes _ _ e i l))) in

@@ -16,7 +16,8 @@ use Rattle.field.proofs.Moduli.{modulus_small}
 use Rattle.header.specs.Header.{header_length_of, flags_of, marks_allowed, bounds_of}
 use Rattle.rows.specs.Rows.{number_at, job_point, job_value}
 use Rattle.marked_rows.specs.declared.Mark.{Mark}
-use Rattle.marked_rows.specs.declared.Mark.TheVariants.{None, Pole, Silent}
+use Rattle.marked_rows.specs.declared.Mark.TheVariants.{Pole, Silent}
+use Rattle.std.specs.Prelude.{Option, Some, None}
 use Rattle.marked_rows.specs.Marks.{mark_of, mark_at, is_unmarked, speaking, speaks}
 use Rattle.marked_rows.proofs.Marks.{unmarked_if_not_allowed, unmarked_if_small, mark_cong}
 use Rattle.job.proofs.Facts.{WellFormedFacts}
@@ -71,10 +72,10 @@ first_small s W none i l =
 pub wrong_speaks : (s : List ℕ) (f : ℕ → List ℕ) (g : List ℕ) (i : ℕ) → wrong_at s f g i ≡ true → speaks s i ≡ true
 wrong_speaks s f g i = by (mark_at s i)
   where
-    by : (m : Mark) → is_wrong (verdict_of m (prime_of (bounds_of s)) (bounds_of s).outputs (job_point s i) (job_value s i) f g) ≡ true → speaking m ≡ true
+    by : (m : Option Mark) → is_wrong (verdict_of m (prime_of (bounds_of s)) (bounds_of s).outputs (job_point s i) (job_value s i) f g) ≡ true → speaking m ≡ true
     by None e = refl
-    by Pole e = refl
-    by Silent e = clash (sym e)
+    by (Some Pole) e = refl
+    by (Some Silent) e = clash (sym e)
 
 module _ (s s' : List ℕ) (outputs : (bounds_of s').outputs ≡ (bounds_of s).outputs) where
   same_number : (i j c : ℕ) → c ≤ (bounds_of s).outputs → StandsAt s i s' j → number_at s i c ≡ number_at s' j c

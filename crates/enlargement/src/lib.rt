@@ -4,13 +4,13 @@
 ghost use Rattle.format.specs.Outcomes.{report_of};
 ghost use Rattle.enlargement.specs.Enlargement.{TwoCalls};
 
-use format::Outcome;
+use format::{Recovered, Refusal};
 
 // What two calls returned.
 #[derive(Clone, Copy)]
 pub struct RecoveryPair {
-    pub first: Outcome,
-    pub second: Outcome,
+    pub first: Result<Recovered, Refusal>,
+    pub second: Result<Recovered, Refusal>,
 }
 
 // Demand 3, the enlargement rule: two jobs, each recovered by a call of its own.

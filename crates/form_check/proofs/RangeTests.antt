@@ -17,14 +17,12 @@ use Rattle.job.proofs.ArrayTests.{values_in_table}
 use Rattle.lists.specs.Counting.{one_if}
 use Rattle.lists.proofs.Truth.{or-false}
 use Rattle.lists.proofs.Tabulated.{at_tabulate}
-use Rattle.std.specs.Prelude.{cond, Option, Some}
-use Rattle.std.specs.Prelude as std
+use Rattle.std.specs.Prelude.{cond, Option, Some, None}
 use Rattle.lists.specs.Search.{if_holds, or_else, first_below, any_below, is_found}
 use Rattle.lists.proofs.FirstBelow.{any_passes, first_cong, first_shorter, at_not_nothing}
 use Rattle.rows.specs.declared.Row.{Row}
 use Rattle.rows.specs.Rows.{job_point, job_value, value_or_zero}
 use Rattle.rows.specs.Steps.{row_at}
-use Rattle.marked_rows.specs.declared.Mark.TheVariants.{None}
 use Rattle.marked_rows.specs.declared.RowConditions.{RowConditions}
 use Rattle.marked_rows.specs.Marks.{mark_of, mark_at, is_unmarked, speaks}
 use Rattle.marked_rows.specs.Table.{conditions_by}
@@ -34,7 +32,7 @@ use Rattle.form_check.specs.Steps.{row_form_of}
 
 -- four tests after another one, in a row
 any_of : (a b c d e : Bool)
-    → ((((a || b) || c) || d) || e) ≡ (a || is_found (or_else (or_else (or_else (or_else std.None (if_holds b 0)) (if_holds c 1)) (if_holds d 2)) (if_holds e 3)))
+    → ((((a || b) || c) || d) || e) ≡ (a || is_found (or_else (or_else (or_else (or_else None (if_holds b 0)) (if_holds c 1)) (if_holds d 2)) (if_holds e 3)))
 any_of true b c d e = refl
 any_of false true c d e = refl
 any_of false false true d e = refl
@@ -86,18 +84,18 @@ module _ (s : List ℕ) (r : ℕ) where
 module _ (s : List ℕ) (r : ℕ) where
   pub form_says : {h : Header} {row : Row} {marks : Bool} {q : ℕ} {x : Option ℕ} → h ≡ header_of s → row ≡ row_at s r → marks ≡ marks_allowed h.flags → q ≡ modulus_of h.bounds.prime
       → x ≡ row_form_of q (conditions_by (mark_of marks h.bounds.outputs (λ i. get_or row.values i 0)) row)
-      → x ≡ cond (out_of_range s r) std.None (Some (one_if (speaks s r)))
+      → x ≡ cond (out_of_range s r) None (Some (one_if (speaks s r)))
   form_says read row allowed prime h =
       let settled = conditions-read s r row (allowed ∙ ap (λ (x : Header). marks_allowed x.flags) read) (ap (λ (x : Header). x.bounds.outputs) read) refl in
       let modulus = prime ∙ ap (λ (x : Header). modulus_of x.bounds.prime) read in
-      h ∙ ap₂ (λ (b : Bool) (n : ℕ). cond b std.None (Some n)) (settled_test s r modulus settled)
+      h ∙ ap₂ (λ (b : Bool) (n : ℕ). cond b None (Some n)) (settled_test s r modulus settled)
       (ap (λ (x : RowConditions). x.speaking) settled ∙ conditions-speaking (mark_at s r) (row_at s r))
 
-pub none_refused : (x : Option ℕ) (t : Bool) (n : ℕ) → ((m : ℕ) → x ≡ Some m → ⊥) → x ≡ cond t std.None (Some n) → t ≡ true
+pub none_refused : (x : Option ℕ) (t : Bool) (n : ℕ) → ((m : ℕ) → x ≡ Some m → ⊥) → x ≡ cond t None (Some n) → t ≡ true
 none_refused x true n other e = refl
 none_refused x false n other e = absurd (other _ e)
 
-pub some_passes : (t : Bool) {m : ℕ} (n : ℕ) → Some m ≡ cond t std.None (Some n) → (t ≡ false) × (m ≡ n)
+pub some_passes : (t : Bool) {m : ℕ} (n : ℕ) → Some m ≡ cond t None (Some n) → (t ≡ false) × (m ≡ n)
 some_passes true n e = absurd (at_not_nothing e)
 some_passes false n e = (refl, cc)
 
@@ -114,7 +112,7 @@ module _ (row : Row) (n p : ℕ) where
       rw (none, e) refl
 
   -- and where marks are not allowed no row has one
-  pub refused_form : test ≡ true → std.None ≡ row_form_of p (conditions_by (mark_of false n (λ i. get_or row.values i 0)) row)
+  pub refused_form : test ≡ true → None ≡ row_form_of p (conditions_by (mark_of false n (λ i. get_or row.values i 0)) row)
   refused_form e = rw (unmarked_if_not_allowed false n (λ i. get_or row.values i 0) refl, e) refl
 
   -- where they are, a row that is settled by its mark and passes test 5 is what the definition has

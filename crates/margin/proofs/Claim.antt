@@ -1,5 +1,5 @@
 -- The margin of an answer, and the claim about the two calls, from what each of them settles.
-use mathlib.Core.Path.{◌≡◌, sym, ap, subst, ◌∙◌}
+use mathlib.Core.Path.{◌≡◌, refl, sym, ap, subst, ◌∙◌}
 use mathlib.Core.Logic.{◌⊎◌, inl, inr}
 use mathlib.Core.List.{List}
 use Prim.Native.Nat.{ℕ, ◌+◌, ◌*◌, ◌≤◌, ◌<◌}
@@ -7,20 +7,20 @@ use native.Mathlib.Omega.{arith}
 use lib.ListN.{length}
 use Rattle.format.specs.Bounds.{prime_of}
 use Rattle.format.specs.declared.Report.{Report}
-use Rattle.format.specs.declared.Reason.{Reason}
-use Rattle.format.specs.declared.Outcome.TheVariants.{Accepted, Refused}
-use Rattle.format.specs.Outcomes.{report_of}
+use Rattle.format.specs.declared.Refusal.{Refusal}
+use Rattle.format.specs.Outcomes.{refusal_report}
 use Rattle.format.proofs.Numbers.{number_positive}
 use Rattle.header.specs.Header.{df_of, bounds_of}
 use Rattle.marked_rows.specs.Marks.{speaking_count}
-use Rattle.job.specs.Refusals.{outcome_of, WellFormed}
+use Rattle.job.specs.Refusals.{WellFormed}
 use Rattle.job.proofs.Facts.{well_formed_facts}
-use Rattle.job.proofs.Forms.{form-outcome, form_with_room, form_accepted, accepted_or_refused}
+use Rattle.job.proofs.Forms.{form-outcome, form_with_room, form_accepted}
 use Rattle.problem.specs.Reduced.{Reduced}
 use Rattle.problem.specs.Answers.{wrong_count, Within, Answer}
 use Rattle.problem.proofs.Same.{wrong_count-same}
 use Rattle.soundness.proofs.OnlyOne.{SameOrFew, same_or_few}
-use Rattle.recovery.specs.Recovery.{RefusedEarly, Answered, RefusedUnsolvable, Settled}
+use Rattle.recovery.specs.Recovery.{Settled}
+use Rattle.recovery.proofs.Settling.{answered_if_zero}
 use Rattle.margin.specs.Margin.{margin_of}
 use Rattle.margin.proofs.Laws.{margin_accepted, margin-sum, margin_positive}
 use Rattle.margin.specs.Others.{Other, Margin}
@@ -56,17 +56,14 @@ module _
     (s area : List ℕ) {r : Report} {after : List ℕ} (S : Settled s area r after) {m : ℕ}
     (M : r.refusal ≡ 0 → m ≡ margin_of s r.wrong) where
   recovered : r.refusal ≡ 0 → (f : ℕ → List ℕ) (g : List ℕ) → Answer s f g → Margin s f g m
-  recovered zero f g a = by S.cases (accepted_or_refused s (length area))
-    where
-      by : RefusedEarly s area r after ⊎ (Answered s area r after ⊎ RefusedUnsolvable s area r after)
-          → (outcome_of s (length area) ≡ Accepted) ⊎ ((reason : Reason) × (row : ℕ) × (outcome_of s (length area) ≡ Refused reason row)) → Margin s f g m
-      by (inl e) (inl accepted) = absurd (e.malformed accepted)
-      by (inl e) (inr o) =
-          let number = ap (λ (x : Report). x.refusal) (e.report ∙ ap report_of o.2) in absurd (omega (arith, number, number_positive o.0, zero))
-      by (inr (inl A)) o =
-          let count = ap (λ (x : Report). x.wrong) A.report ∙ wrong_count-same s (A.only f g a) in
-          subst (Margin s f g) (sym (M zero ∙ ap (margin_of s) count)) (answer_margin s (length area) A.well_formed a)
-      by (inr (inr u)) o = let eight = ap (λ (x : Report). x.refusal) u.report in absurd (omega (arith, eight, zero))
+  recovered zero f g a =
+      let A = answered_if_zero s area S zero in
+      let count = ap (λ (x : Report). x.wrong) A.report ∙ wrong_count-same s (A.only f g a) in
+      subst (Margin s f g) (sym (M zero ∙ ap (margin_of s) count)) (answer_margin s (length area) A.well_formed a)
 
   pub recovered-margin : (0 < r.refusal → m ≡ 0) → RecoveredMargin s area r after m
   recovered-margin none = record { first = S; second = M; recovered = recovered; refused = none }
+
+-- and of a call that is refused, which names no margin
+pub refused_margin : (s area : List ℕ) (e : Refusal) {after : List ℕ} → Settled s area (refusal_report e) after → RecoveredMargin s area (refusal_report e) after 0
+refused_margin s area e S = recovered-margin s area S (λ zero. absurd (omega (arith, number_positive e.reason, zero))) (λ positive. refl)

@@ -1,3 +1,4 @@
 pub mod Margin
 pub mod Others
 pub mod RecoveredMargin
+pub mod Measured

@@ -1,19 +1,21 @@
 -- What a call settles is determined, and whether a job has an answer is decided.
 use mathlib.Core.Path.{◌≡◌, refl, sym, ◌∙◌, ap}
 use mathlib.Core.Logic.{◌⊎◌, inl, inr}
-use mathlib.Core.Bool.{Bool, true, false}
 use mathlib.Core.List.{List}
 use Prim.Native.Nat.{ℕ, ◌≤◌, ◌<◌}
 use native.Mathlib.Decide.{dec_lt}
 use native.Mathlib.Omega.{arith}
 use lib.ListN.{length}
+use Rattle.std.specs.Prelude.{Option, Some, None, Result, Ok}
 use Rattle.format.specs.declared.Reason.TheVariants.{SpareBit, TooManyRows, NotReduced}
-use Rattle.format.specs.declared.Outcome.{Outcome}
-use Rattle.format.specs.declared.Outcome.TheVariants.{Accepted, Refused}
+use Rattle.format.specs.declared.Refusal.{Refusal}
+use Rattle.format.specs.declared.Recovered.{Recovered}
 use Rattle.format.specs.declared.Report.{Report}
-use Rattle.format.specs.Outcomes.{report_of, recovered_report}
+use Rattle.format.specs.Outcomes.{refused, report_of, check_report_of, recovered_report}
 use Rattle.format.specs.Bounds.{answer_length_of}
 use Rattle.format.proofs.Reports.{outcome_injective}
+use Rattle.poly.specs.declared.Vector.{Vector}
+use Rattle.candidate.specs.Extensions.{numerator_at}
 use Rattle.header.specs.Header.{bounds_of}
 use Rattle.job.specs.Refusals.{outcome_of}
 use Rattle.job.proofs.Facts.{WellFormedFacts}
@@ -22,17 +24,20 @@ use Rattle.lists.specs.Overwriting.{overwritten}
 use Rattle.problem.specs.Answers.{wrong_count, Answer, Unsolvable}
 use Rattle.problem.proofs.Same.{wrong_count-same, recovered-same}
 use Rattle.recovery.specs.Recovery.{RefusedEarly, Answered, RefusedUnsolvable, Settled}
-use Rattle.recovery.proofs.Settlement.{last, numerators, denominator, unsolvable_early, unsolvable_late, solved}
+use Rattle.recovery.proofs.Settlement.{last, unsolvable_early, unsolvable_late, solved}
 
 -- whether an answer exists is decided
 pub decided : (s : List ℕ) {area : ℕ} → WellFormedFacts s area → ((f : ℕ → List ℕ) × (g : List ℕ) × Answer s f g) ⊎ Unsolvable s
-decided s W = by (last s W).solvable refl (dec_lt (bounds_of s).errors (wrong_count s (numerators s W) (denominator s W)))
+decided s W = by (last s W) refl
   where
-    by : (t : Bool) → (last s W).solvable ≡ t → Dec ((bounds_of s).errors < wrong_count s (numerators s W) (denominator s W))
+    counted : {v : Vector} → last s W ≡ Some v → Dec ((bounds_of s).errors < wrong_count s (numerator_at v) v.g.c)
         → ((f : ℕ → List ℕ) × (g : List ℕ) × Answer s f g) ⊎ Unsolvable s
-    by false e d = inr (unsolvable_early s W e)
-    by true e (yes many) = inr (unsolvable_late s W e many)
-    by true e (no few) = inl (numerators s W, denominator s W, solved s W e (omega arith))
+    counted e (yes many) = inr (unsolvable_late s W e many)
+    counted {v} e (no few) = inl (numerator_at v, v.g.c, solved s W e (omega arith))
+
+    by : (o : Option Vector) → last s W ≡ o → ((f : ℕ → List ℕ) × (g : List ℕ) × Answer s f g) ⊎ Unsolvable s
+    by None e = inr (unsolvable_early s W e)
+    by (Some v) e = counted e (dec_lt _ _)
 
 module _ (s area : List ℕ) {r r' : Report} {after after' : List ℕ} where
   same_answer : Answered s area r after → Answered s area r' after' → (r ≡ r') × (after ≡ after')
@@ -83,20 +88,20 @@ module _ (s area : List ℕ) where
       by (inr (inr u)) o = let same = ap (λ t. t.refusal) u.report in (λ two. omega arith, λ high. absurd (omega arith))
 
   -- so `recover` never returns SpareBit, which is 2, and TooManyRows or NotReduced, which are paper 02's 9 and 10
-  pub never_2 : (row : ℕ) {after : List ℕ} → Settled s area (report_of (Refused SpareBit row)) after → ⊥
+  pub never_2 : (row : ℕ) {after : List ℕ} → Settled s area (report_of (refused SpareBit row)) after → ⊥
   never_2 row S = (refusals_given S).0 refl
 
-  pub never_later : (row : ℕ) {after : List ℕ} → (Settled s area (report_of (Refused TooManyRows row)) after → ⊥) × (Settled s area (report_of (Refused NotReduced row)) after → ⊥)
+  pub never_later : (row : ℕ) {after : List ℕ} → (Settled s area (report_of (refused TooManyRows row)) after → ⊥) × (Settled s area (report_of (refused NotReduced row)) after → ⊥)
   never_later row = (λ S. omega (arith, ((refusals_given S).1 (omega arith)).0), λ S. omega (arith, ((refusals_given S).1 (omega arith)).0))
 
-  -- nor Accepted
-  pub never_accepted : {o : Outcome} {after : List ℕ} → Settled s area (report_of o) after → o ≡ Accepted → ⊥
-  never_accepted {o} S accepted = by (settled_says S)
+  -- nor what a check says of a job that passes, a recovery of no bytes
+  pub never_accepted : {after : List ℕ} → Settled s area (check_report_of (Ok tt)) after → ⊥
+  never_accepted S = by (settled_says S)
     where
-      by : (0 < (report_of o).refusal) ⊎ (0 < (report_of o).written) → ⊥
-      by (inl l) = let e = ap (λ x. (report_of x).refusal) accepted in omega arith
-      by (inr l) = let e = ap (λ x. (report_of x).written) accepted in omega arith
+      by : (0 < (check_report_of (Ok tt)).refusal) ⊎ (0 < (check_report_of (Ok tt)).written) → ⊥
+      by (inl l) = omega arith
+      by (inr l) = omega arith
 
-  -- and the enum that `recover` returns is determined
-  pub outcome_unique : {o o' : Outcome} {after after' : List ℕ} → Settled s area (report_of o) after → Settled s area (report_of o') after' → o ≡ o'
-  outcome_unique {o} {o'} S S' = outcome_injective o o' (never_accepted S) (never_accepted S') (settled_unique s area S S').0
+  -- and what `recover` returns is determined
+  pub outcome_unique : {r r' : Result Recovered Refusal} {after after' : List ℕ} → Settled s area (report_of r) after → Settled s area (report_of r') after' → r ≡ r'
+  outcome_unique {r} {r'} S S' = outcome_injective r r' (settled_unique s area S S').0

@@ -1,27 +1,29 @@
 -- From the reader's and the solver's results to what a call settles.
 use mathlib.Core.Path.{◌≡◌, refl, sym, ◌∙◌, ap, ap₂, subst}
 use mathlib.Core.Logic.{◌⊎◌, inl, inr, ◌↔◌}
-use mathlib.Core.Bool.{Bool, true, false}
 use mathlib.Core.List.{List}
 use Prim.Native.Nat.{ℕ, ◌≤◌, ◌<◌}
 use native.Mathlib.Decide.{dec_lt}
 use native.Mathlib.Omega.{arith}
 use lib.ListN.{length}
-use Rattle.format.specs.declared.Reason.TheVariants.{NoAnswer}
-use Rattle.format.specs.declared.Outcome.TheVariants.{Accepted, Refused}
+use Rattle.std.specs.Prelude.{Option, Some, None, Result, Ok, Err}
+use Rattle.std.specs.Result.{MatchResult}
+use Rattle.std.proofs.lemmas.Result.{MatchResult-at_ok, MatchResult-at_err}
+use Rattle.format.specs.declared.Refusal.{Refusal}
 use Rattle.format.specs.declared.Report.{Report}
-use Rattle.format.specs.Outcomes.{recovered_report, report_of}
+use Rattle.format.specs.Outcomes.{recovered_report, refused_report, refusal_report, check_report_of, report_of}
 use Rattle.format.specs.Bounds.{answer_length_of}
+use Rattle.poly.specs.declared.Vector.{Vector}
 use Rattle.poly.specs.Vectors.{coefficients_at}
+use Rattle.candidate.specs.Extensions.{numerator_at}
 use Rattle.header.specs.Header.{bounds_of}
 use Rattle.marked_rows.specs.Marks.{speaking_count}
 use Rattle.marked_rows.specs.Table.{job_points, job_weights, job_values}
-use Rattle.job.specs.declared.parsed_job.ParsedJob.{ParsedJob}
 use Rattle.job.specs.Refusals.{outcome_of, WellFormed}
 use Rattle.job.specs.ParsedJob.{parsed_job_of}
 use Rattle.job.proofs.Facts.{WellFormedFacts, well_formed_facts, refused_not_accepted}
 use Rattle.job.proofs.Numbers.{Early, outcome_early}
-use Rattle.job.proofs.Laws.{parsed_outcome}
+use Rattle.job.proofs.Laws.{parsed_refused}
 use Rattle.row_mask.specs.Word.{wrong_count_of}
 use Rattle.answer.specs.Bytes.{answer_bytes}
 use Rattle.lists.specs.Overwriting.{overwritten}
@@ -31,10 +33,10 @@ use Rattle.wrong_rows.proofs.JobRows.{same_wrong}
 use Rattle.problem.specs.Answers.{wrong_at, wrong_count, Answer, Unsolvable, word_for}
 use Rattle.soundness.proofs.OnlyOne.{at_most_one}
 use Rattle.solver.specs.declared.Solution.{Solution}
+use Rattle.solver.specs.Solutions.{word_by, counted_solution, judged_solution, solution_for}
+use Rattle.solver.proofs.SolutionLaws.{counted_many, counted_few}
+use Rattle.recovery.proofs.Settlement.{last, unsolvable_early, unsolvable_late, solved}
 use Rattle.recovery.specs.Recovery.{RefusedEarly, Answered, RefusedUnsolvable, Settled}
-use Rattle.solver.specs.Solutions.{unsolved_solution, word_by, solution_for}
-use Rattle.recovery.proofs.Settlement.{last, numerators, denominator, unsolvable_early, unsolvable_late, solved}
-use Rattle.solver.proofs.SolutionLaws.{judged_unsolvable, judged_solvable, counted_many, counted_few}
 
 module _ (s area : List ℕ) where
   -- the report says 8 exactly if the job is well formed and has no answer
@@ -62,91 +64,71 @@ module _ (s area : List ℕ) where
       by (inr (inl A)) o = A
       by (inr (inr U)) o = absurd (let same = ap (λ t. t.refusal) U.report in omega arith)
 
-  pub outcome-read : (r : ParsedJob) → r ≡ parsed_job_of s (length area) → r.outcome ≡ outcome_of s (length area)
-  outcome-read r e = ap (λ t. t.outcome) e ∙ parsed_outcome s (length area)
-
-  pub settle_early : (r : ParsedJob) → r ≡ parsed_job_of s (length area) → (r.outcome ≡ Accepted → ⊥) → Settled s area (report_of r.outcome) area
-  settle_early r e refused =
-      settled (inl (record { malformed = λ wf. refused (outcome-read r e ∙ wf); report = ap report_of (outcome-read r e); untouched = refl }))
+  -- a job that a test before 8 refuses
+  pub settle_early : {e : Refusal} → parsed_job_of s (length area) ≡ Err e → Settled s area (report_of (Err e)) area
+  settle_early h =
+      let early = parsed_refused s (length area) h in
+      settled (inl (record { malformed = λ wf. refused_not_accepted (sym early ∙ wf); report = ap check_report_of (sym early); untouched = refl }))
 
   module _ (wf : WellFormed s (length area)) where
     W : WellFormedFacts s (length area)
     W = well_formed_facts s (length area) wf
 
-    abbrev f : ℕ → List ℕ
-    f = numerators s W
+    -- the solver's word and count are those of its vector
+    module _ (v : Vector) where
+      word_means : word_by (bounds_of s) (job_points s) (job_weights s) (job_values s) v ≡ word_for s (numerator_at v) v.g.c
+      unfolding word_by
+      word_means = word_same _ _ _ (same_wrong s (numerator_at v) v.g.c)
 
-    abbrev g : List ℕ
-    g = denominator s W
+      count_means : wrong_count_of (word_by (bounds_of s) (job_points s) (job_weights s) (job_values s) v) ≡ wrong_count s (numerator_at v) v.g.c
+      count_means =
+          ap wrong_count_of word_means
+          ∙ count_of_word (bounds_of s).rows (wrong_at s (numerator_at v) v.g.c) (let n = W.fields.rows_most in omega arith)
 
-    word_means : word_by (bounds_of s) (job_points s) (job_weights s) (job_values s) (last s W) ≡ word_for s f g
-    unfolding word_by
-    word_means = word_same _ _ _ (same_wrong s f g)
+    -- what the solver returns: the answer with its word and count, or that there is none
+    pub record Solved (x : Solution) : Type 0 where
+      pub answer : Answer s (numerator_at x.vector) x.vector.g.c
+      pub word : x.word ≡ word_for s (numerator_at x.vector) x.vector.g.c
+      pub wrong : x.wrong ≡ wrong_count s (numerator_at x.vector) x.vector.g.c
 
-    count_means : wrong_count_of (word_by (bounds_of s) (job_points s) (job_weights s) (job_values s) (last s W)) ≡ wrong_count s f g
-    count_means = ap wrong_count_of word_means ∙ count_of_word (bounds_of s).rows (wrong_at s f g) (let n = W.fields.rows_most in omega arith)
+    pub record Unsolved (e : Refusal) : Type 0 where
+      pub report : refusal_report e ≡ refused_report 8 0
+      pub none : Unsolvable s
 
-    -- the solver's result where there is an answer
-    abbrev answered : Solution
-    answered = record { outcome = Accepted; word = word_for s f g; wrong = wrong_count s f g; g = (last s W).g; f = (last s W).f }
+    counted : {v : Vector} → last s W ≡ Some v → Dec ((bounds_of s).errors < wrong_count s (numerator_at v) v.g.c)
+        → MatchResult (counted_solution (bounds_of s) (job_points s) (job_weights s) (job_values s) v) Solved Unsolved
+    counted {v} e (yes many) =
+        subst (λ (r : Result Solution Refusal). MatchResult r Solved Unsolved)
+        (counted_many (bounds_of s) (job_points s) (job_weights s) (job_values s) v (omega (arith, count_means v)))
+        (record { report = refl; none = unsolvable_late s W e many })
+    counted {v} e (no few) =
+        subst (λ (r : Result Solution Refusal). MatchResult r Solved Unsolved)
+        (counted_few (bounds_of s) (job_points s) (job_weights s) (job_values s) v refl refl (omega (arith, count_means v)))
+        (record { answer = solved s W e (omega arith); word = word_means v; wrong = count_means v })
 
-    abbrev Cases : Solution → Type 0
-    Cases t = ((t.outcome ≡ Refused NoAnswer 0) × Unsolvable s) ⊎ (Answer s f g × (t ≡ answered))
+    judged : (o : Option Vector) → last s W ≡ o → MatchResult (judged_solution (bounds_of s) (job_points s) (job_weights s) (job_values s) o) Solved Unsolved
+    judged None e = record { report = refl; none = unsolvable_early s W e }
+    judged (Some v) e = counted e (dec_lt _ _)
 
-    few : (last s W).solvable ≡ true → wrong_count s f g ≤ (bounds_of s).errors → Cases (solution_for (bounds_of s) (speaking_count s) (job_points s) (job_weights s) (job_values s))
-    few e l =
-        inr (
-          solved s W e l,
-          sym (counted_few (bounds_of s) (job_points s) (job_weights s) (job_values s) (last s W) (sym word_means) (sym word_count) l
-              ∙ judged_solvable (bounds_of s) (job_points s) (job_weights s) (job_values s) (last s W) e),
-        )
-      where
-        word_count : wrong_count_of (word_for s f g) ≡ wrong_count s f g
-        word_count = ap wrong_count_of (sym word_means) ∙ count_means
+    abbrev solution : Result Solution Refusal
+    solution = solution_for (bounds_of s) (speaking_count s) (job_points s) (job_weights s) (job_values s)
 
-    many : (last s W).solvable ≡ true → (bounds_of s).errors < wrong_count s f g → Cases (solution_for (bounds_of s) (speaking_count s) (job_points s) (job_weights s) (job_values s))
-    unfolding unsolved_solution
-    many e l =
-        inl (
-          ap (λ t. t.outcome) (sym (counted_many (bounds_of s) (job_points s) (job_weights s) (job_values s) (last s W) (omega (arith, count_means))
-              ∙ judged_solvable (bounds_of s) (job_points s) (job_weights s) (job_values s) (last s W) e)),
-          unsolvable_late s W e l,
-        )
+    pub settle_unsolved : {e : Refusal} → solution ≡ Err e → Settled s area (report_of (Err e)) area
+    settle_unsolved h =
+        let u = MatchResult-at_err Solved Unsolved _ h (judged (last s W) refl) in
+        settled (inr (inr (record { well_formed = wf; none = u.none; report = u.report; untouched = refl })))
 
-    none : (last s W).solvable ≡ false → Cases (solution_for (bounds_of s) (speaking_count s) (job_points s) (job_weights s) (job_values s))
-    unfolding unsolved_solution
-    none e =
-        inl (ap (λ t. t.outcome) (sym (judged_unsolvable (bounds_of s) (job_points s) (job_weights s) (job_values s) (last s W) e)), unsolvable_early s W e)
-
-    cases : Cases (solution_for (bounds_of s) (speaking_count s) (job_points s) (job_weights s) (job_values s))
-    cases = by (last s W).solvable refl (dec_lt (bounds_of s).errors (wrong_count s f g))
-      where
-        by : (t : Bool) → (last s W).solvable ≡ t → Dec ((bounds_of s).errors < wrong_count s f g) → Cases (solution_for (bounds_of s) (speaking_count s) (job_points s) (job_weights s) (job_values s))
-        by false e d = none e
-        by true e (yes l) = many e l
-        by true e (no l) = few e (omega arith)
-
-    module _ (t : Solution) (e : t ≡ solution_for (bounds_of s) (speaking_count s) (job_points s) (job_weights s) (job_values s)) where
-      pub settle_unsolved : (t.outcome ≡ Accepted → ⊥) → Settled s area (report_of t.outcome) area
-      settle_unsolved refused = by (subst Cases (sym e) cases)
-        where
-          by : Cases t → Settled s area (report_of t.outcome) area
-          by (inl u) = settled (inr (inr (record { well_formed = wf; none = u.1; report = ap report_of u.0; untouched = refl })))
-          by (inr a) = absurd (refused (ap (λ r. r.outcome) a.1))
-
-      pub settle_solved : t.outcome ≡ Accepted → (bytes : ℕ) → bytes ≡ answer_length_of (bounds_of s) → (after : List ℕ)
-          → after ≡ overwritten (answer_bytes (bounds_of s) t.word t.g.c (coefficients_at t.f)) area
-          → Settled s area (recovered_report bytes t.wrong) after
-      settle_solved recovered bytes length_is after written = by (subst Cases (sym e) cases)
-        where
-          by : Cases t → Settled s area (recovered_report bytes t.wrong) after
-          by (inl u) = absurd (refused_not_accepted (sym u.0 ∙ recovered))
-          by (inr a) = settled (inr (inl (record {
-            well_formed = wf;
-            f = f;
-            g = g;
-            answer = a.0;
-            only = λ f' g' a'. at_most_one s W a.0 a';
-            report = ap₂ recovered_report length_is (ap (λ r. r.wrong) a.1);
-            written = written ∙ ap (λ r. overwritten (answer_bytes (bounds_of s) r.word r.g.c (coefficients_at r.f)) area) a.1;
-          })))
+    pub settle_solved : {x : Solution} → solution ≡ Ok x → (bytes : ℕ) → bytes ≡ answer_length_of (bounds_of s) → (after : List ℕ)
+        → after ≡ overwritten (answer_bytes (bounds_of s) x.word x.vector.g.c (coefficients_at x.vector.f)) area
+        → Settled s area (recovered_report bytes x.wrong) after
+    settle_solved {x} h bytes length_is after written =
+        let a = MatchResult-at_ok Solved Unsolved x h (judged (last s W) refl) in
+        settled (inr (inl (record {
+          well_formed = wf;
+          f = numerator_at x.vector;
+          g = x.vector.g.c;
+          answer = a.answer;
+          only = λ f' g' a'. at_most_one s W a.answer a';
+          report = ap₂ recovered_report length_is a.wrong;
+          written = written ∙ ap (λ (w : ℕ). overwritten (answer_bytes (bounds_of s) w x.vector.g.c (coefficients_at x.vector.f)) area) a.word;
+        })))

@@ -1,8 +1,8 @@
 -- Demands 1 and 2: what a call of the recovery reports and leaves in the answer area, from the job's bytes s and the area before. A report is
--- the outcome in paper 01's numbers: the refusal, its row, the bytes written, the wrong rows.
+-- what the call returns in paper 01's numbers: the refusal, its row, the bytes written, the wrong rows.
 use Rattle.std.specs.Prelude.{◌≡◌, ◌⊎◌, ◌↔◌, List, ℕ, length}
 use Rattle.format.specs.declared.Report.{Report}
-use Rattle.format.specs.Outcomes.{report_of, refused_report, recovered_report}
+use Rattle.format.specs.Outcomes.{check_report_of, refused_report, recovered_report}
 use Rattle.format.specs.Bounds.{answer_length_of}
 use Rattle.header.specs.Header.{bounds_of}
 use Rattle.job.specs.Refusals.{outcome_of, WellFormed}
@@ -13,7 +13,7 @@ use Rattle.problem.specs.Answers.{wrong_count, Answer, Unsolvable, recovered_byt
 -- a test before 8 refuses the job: its number and row are reported, and the area is untouched
 pub record RefusedEarly (s area : List ℕ) (r : Report) (after : List ℕ) : Type 0 where
   pub malformed : WellFormed s (length area) → ⊥
-  pub report : r ≡ report_of (outcome_of s (length area))
+  pub report : r ≡ check_report_of (outcome_of s (length area))
   pub untouched : after ≡ area
 
 -- The job is well formed and has an answer f, g, the only one. "The call returns the number of bytes written and how many rows are wrong";

@@ -4,32 +4,17 @@
 ghost use Rattle.format.specs.Outcomes.{report_of};
 ghost use Rattle.recovery.specs.Recovery.{Settled};
 
-use format::Outcome;
+use format::{Recovered, Refusal};
 
 // Demands 1 and 2: any job, any area.
-pub fn recover(job: &[u8], area: &mut [u8]) -> Outcome
+pub fn recover(job: &[u8], area: &mut [u8]) -> Result<Recovered, Refusal>
     ensures { Settled job.now area.old (report_of result) area.new }
 {
-    let parsed = job::read(job, area.len());
-    let decided = parsed.outcome;
-    let Outcome::Accepted = decided else {
-        return decided;
-    };
-    let b = parsed.bounds;
-    let points = parsed.points;
-    let values = parsed.values;
-    let weights = parsed.weights;
-    let s = solver::solve(b, parsed.speaking, points, weights, values);
-    let outcome = s.outcome;
-    let Outcome::Accepted = outcome else {
-        return outcome;
-    };
-    let word = s.word;
-    let g = s.g;
-    let f = s.f;
-    let bytes = answer::write(area, b, word, g, f) as u32;
-    Outcome::Recovered {
-        bytes: bytes,
-        wrong: s.wrong,
-    }
+    let parsed = job::read(job, area.len())?;
+    let solution = solver::solve(parsed.bounds, &parsed.table)?;
+    let written = answer::write(area, parsed.bounds, solution.word, &solution.vector);
+    Ok(Recovered {
+        bytes: written as u32,
+        wrong: solution.wrong,
+    })
 }
