@@ -6,7 +6,7 @@ ghost use Rattle.lists.specs.Tabulated.{tabulate};
 ghost use Rattle.cursor.specs.Bits.{field_of};
 ghost use Rattle.header.specs.Header.{marks_allowed, header_of, job_length_of, rows_needed_of, FitsHeader};
 
-use cursor::{Cursor, Field};
+use cursor::Cursor;
 use format::Bounds;
 
 // All that a header says: the bounds, df, the flags of the longer header, and how many bytes it has, 3 or 7.
@@ -34,91 +34,75 @@ struct Added {
     flags: u32,
 }
 
-fn size(x: u32) -> usize
-    ensures { result ≡ x }
-{
-    x as usize
-}
-
 // The short header: one bound for every output, and no flags.
 fn without_added(outputs: usize, df: usize) -> Added
     requires { outputs ≤ 4 }
     ensures { (result.numerators ≡ tabulate 4 (λ i. cond (ltb i outputs) df 0)) × (result.flags ≡ 0) }
 {
-    let mut numerators = [0usize; 4];
-    for i in 0..outputs {
-        numerators[i] = df;
-    }
+    let mut numerators = [0; 4];
+    numerators[..outputs].fill(df);
     Added {
-        numerators: numerators,
+        numerators,
         flags: 0,
     }
 }
 
 // The longer header: a bound for each output, then the flags.
-fn read_added(s: &[u8], start: Cursor) -> Added
-    requires { start.at ≡ 24 }
+fn read_added(s: &[u8], mut at: Cursor) -> Added
+    requires { at.at ≡ 24 }
     ensures { (result.numerators ≡ tabulate 4 (λ i. field_of s.now (24 + 5 * i) 5)) × (result.flags ≡ field_of s.now 44 12) }
 {
-    let mut numerators = [0usize; 4];
-    let mut at = start;
-    for i in 0..4 {
-        let bound = at.take(s, 5);
-        numerators[i] = size(bound.value);
-        at = bound.next;
+    let mut numerators = [0; 4];
+    for bound in &mut numerators {
+        *bound = at.take(s, 5) as usize;
     }
     let flags = at.take(s, 12);
-    Added {
-        numerators: numerators,
-        flags: flags.value,
-    }
+    Added { numerators, flags }
 }
 
-// Either, by the spare bit.
-fn added_or_not(s: &[u8], spare: Field, outputs: usize, df: usize) -> Added
-    requires { (spare.next.at ≡ 24) × (outputs ≤ 4) }
-    ensures { (result.numerators ≡ tabulate 4 (λ i. cond (eqb spare.value 1) (field_of s.now (24 + 5 * i) 5) (cond (ltb i outputs) df 0)))
-        × (result.flags ≡ cond (eqb spare.value 1) (field_of s.now 44 12) 0) }
+// Either, by the spare bit, which stands before the cursor.
+fn added_or_not(s: &[u8], at: Cursor, spare: u32, outputs: usize, df: usize) -> Added
+    requires { (at.at ≡ 24) × (outputs ≤ 4) }
+    ensures { (result.numerators ≡ tabulate 4 (λ i. cond (eqb spare 1) (field_of s.now (24 + 5 * i) 5) (cond (ltb i outputs) df 0)))
+        × (result.flags ≡ cond (eqb spare 1) (field_of s.now 44 12) 0) }
 {
-    if spare.value == 1 {
-        return read_added(s, spare.next);
+    if spare == 1 {
+        read_added(s, at)
+    } else {
+        without_added(outputs, df)
     }
-    without_added(outputs, df)
 }
 
 // Reads the fields one after the other.
 pub fn read_header(s: &[u8]) -> Header
     ensures { result ≡ header_of s.now }
 {
-    let start = Cursor { at: 0 };
-    let code = start.take(s, 2);
-    let outputs = code.next.take(s, 2);
-    let rows = outputs.next.take(s, 5);
-    let df = rows.next.take(s, 5);
-    let dg = df.next.take(s, 5);
-    let errors = dg.next.take(s, 4);
-    let spare = errors.next.take(s, 1);
-    let prime = field::prime_of_code(code.value);
-    let n = size(outputs.value) + 1;
-    let added = added_or_not(s, spare, n, size(df.value));
-    let numerators = added.numerators;
-    let bounds = Bounds {
-        prime: prime,
-        outputs: n,
-        rows: size(rows.value),
-        numerators: numerators,
-        dg: size(dg.value),
-        errors: size(errors.value),
-    };
+    let mut at = Cursor { at: 0 };
+    let prime = field::prime_of_code(at.take(s, 2));
+    let outputs = at.take(s, 2) as usize + 1;
+    let rows = at.take(s, 5) as usize;
+    let df = at.take(s, 5) as usize;
+    let dg = at.take(s, 5) as usize;
+    let errors = at.take(s, 4) as usize;
+    let spare = at.take(s, 1);
+    let Added { numerators, flags } = added_or_not(s, at, spare, outputs, df);
     Header {
-        bounds: bounds,
-        df: size(df.value),
-        flags: added.flags,
-        length: 3 + 4 * size(spare.value),
+        bounds: Bounds {
+            prime,
+            outputs,
+            rows,
+            numerators,
+            dg,
+            errors,
+        },
+        df,
+        flags,
+        length: 3 + 4 * spare as usize,
     }
 }
 
 // The bytes of a job with this header.
+#[tactic(auto, using(crate::proofs::Fields::rows_bytes))]
 pub fn job_length(h: Header) -> usize
     requires { FitsHeader h }
     ensures { result ≡ job_length_of h }

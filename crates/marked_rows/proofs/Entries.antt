@@ -6,6 +6,7 @@ use Prim.Native.Nat.{ℕ, ◌+◌, ◌*◌, ◌/◌, ◌%◌, ◌<◌, ◌≤◌
 use native.Mathlib.Omega.{arith}
 use borrow.Author.Tests.{lt-ltb}
 use lib.ListN.{get_or, get_or-replicate}
+use Rattle.std.specs.Prelude.{Option, Some, None}
 use Rattle.lists.proofs.Tabulated.{at_tabulate}
 use Rattle.lists.specs.Counting.{one_if}
 use Rattle.header.specs.Header.{flags_of, marks_allowed, bounds_of}
@@ -14,37 +15,37 @@ use Rattle.rows.specs.declared.Row.{Row}
 use Rattle.rows.specs.Rows.{job_point, job_value, value_or_zero}
 use Rattle.rows.specs.Steps.{row_at}
 use Rattle.marked_rows.specs.declared.Mark.{Mark}
-use Rattle.marked_rows.specs.declared.Mark.TheVariants.{None, Pole, Silent}
+use Rattle.marked_rows.specs.declared.Mark.TheVariants.{Pole, Silent}
 use Rattle.marked_rows.specs.declared.RowConditions.{RowConditions}
 use Rattle.marked_rows.specs.Marks.{mark_of, mark_at, speaking}
 use Rattle.marked_rows.specs.Table.{weight_of, right_side_of, conditions_by, job_points, job_weights, job_values}
 use Rattle.marked_rows.proofs.Marks.{mark_cong}
 
 -- the fields of a row's conditions, by its mark
-pub conditions_point : (m : Mark) (row : Row) → (conditions_by m row).point ≡ row.point
+pub conditions_point : (m : Option Mark) (row : Row) → (conditions_by m row).point ≡ row.point
 conditions_point None row = refl
-conditions_point Pole row = refl
-conditions_point Silent row = refl
+conditions_point (Some Pole) row = refl
+conditions_point (Some Silent) row = refl
 
-pub conditions_weight : (m : Mark) (row : Row) → (conditions_by m row).weight ≡ weight_of m
+pub conditions_weight : (m : Option Mark) (row : Row) → (conditions_by m row).weight ≡ weight_of m
 conditions_weight None row = refl
-conditions_weight Pole row = refl
-conditions_weight Silent row = refl
+conditions_weight (Some Pole) row = refl
+conditions_weight (Some Silent) row = refl
 
-pub conditions-speaking : (m : Mark) (row : Row) → (conditions_by m row).speaking ≡ one_if (speaking m)
+pub conditions-speaking : (m : Option Mark) (row : Row) → (conditions_by m row).speaking ≡ one_if (speaking m)
 conditions-speaking None row = refl
-conditions-speaking Pole row = refl
-conditions-speaking Silent row = refl
+conditions-speaking (Some Pole) row = refl
+conditions-speaking (Some Silent) row = refl
 
-pub speaking_most : (m : Mark) (row : Row) → (conditions_by m row).speaking ≤ 1
+pub speaking_most : (m : Option Mark) (row : Row) → (conditions_by m row).speaking ≤ 1
 speaking_most None row = omega arith
-speaking_most Pole row = omega arith
-speaking_most Silent row = omega arith
+speaking_most (Some Pole) row = omega arith
+speaking_most (Some Silent) row = omega arith
 
-pub conditions-value : (m : Mark) (row : Row) (i : ℕ) → i < 4 → get_or (conditions_by m row).values i 0 ≡ right_side_of m (get_or row.values i 0)
+pub conditions-value : (m : Option Mark) (row : Row) (i : ℕ) → i < 4 → get_or (conditions_by m row).values i 0 ≡ right_side_of m (get_or row.values i 0)
 conditions-value None row i l = refl
-conditions-value Pole row i l = get_or-replicate 4 i 1 0 l
-conditions-value Silent row i l = get_or-replicate 4 i 0 0 l
+conditions-value (Some Pole) row i l = get_or-replicate 4 i 1 0 l
+conditions-value (Some Silent) row i l = get_or-replicate 4 i 0 0 l
 
 module _ (s : List ℕ) where
   -- row r as it is read has the mark of the definition

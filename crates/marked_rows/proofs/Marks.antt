@@ -1,22 +1,28 @@
 -- When a row is marked, and with what.
-use mathlib.Core.Bool.{Bool, true, false, not}
-use mathlib.Core.Path.{◌≡◌, refl, ap}
-use Prim.Native.Nat.{ℕ, ◌<◌}
+use mathlib.Core.Bool.{Bool, true, false, not, ◌&&◌}
+use mathlib.Core.List.{List}
+use mathlib.Core.Path.{◌≡◌, refl, ap, ◌∙◌}
+use Prim.Native.Nat.{ℕ, zero, suc, ◌≤◌, ◌<◌}
+use native.Mathlib.Numerals.{add-one}
 use native.Mathlib.Omega.{arith}
 use borrow.Author.Tests.{eqb-true, not-true, not-false}
 use lib.Dec.{eqb}
+use lib.ListN.{get_or, length, take}
+use Rattle.std.specs.Prelude.{Option, Some, None}
+use Rattle.std.specs.List.{list_all}
+use Rattle.std.proofs.lemmas.List.Folds.{list_all_more}
 use Rattle.lists.proofs.Truth.{never_true}
-use Rattle.lists.specs.Search.{is_found}
+use Rattle.lists.specs.Search.{first_below, or_else, if_holds, is_found}
 use Rattle.lists.proofs.FirstBelow.{any_passes, first_cong}
-use Rattle.marked_rows.specs.declared.Mark.TheVariants.{None, Pole, Silent}
+use Rattle.marked_rows.specs.declared.Mark.TheVariants.{Pole, Silent}
 use Rattle.marked_rows.specs.Marks.{all_are, mark_of}
 
 module _ (allowed : Bool) (n : ℕ) (y : ℕ → ℕ) where
-  pub pole_if : allowed ≡ true → all_are n y 65535 ≡ true → mark_of allowed n y ≡ Pole
+  pub pole_if : allowed ≡ true → all_are n y 65535 ≡ true → mark_of allowed n y ≡ Some Pole
   unfolding mark_of
   pole_if a e = rw (a, e) refl
 
-  pub silent_if : allowed ≡ true → all_are n y 65535 ≡ false → all_are n y 65534 ≡ true → mark_of allowed n y ≡ Silent
+  pub silent_if : allowed ≡ true → all_are n y 65535 ≡ false → all_are n y 65534 ≡ true → mark_of allowed n y ≡ Some Silent
   unfolding mark_of
   silent_if a other e = rw (a, other, e) refl
 
@@ -32,6 +38,21 @@ module _ (allowed : Bool) (n : ℕ) (y : ℕ → ℕ) where
   pub unmarked_if_not_allowed : allowed ≡ false → mark_of allowed n y ≡ None
   unfolding mark_of
   unmarked_if_not_allowed a = rw a refl
+
+not-found-or : (f : Option ℕ) (b : Bool) (n : ℕ) → (not (is_found f) && b) ≡ not (is_found (or_else f (if_holds (not b) n)))
+not-found-or (Some i) b n = refl
+not-found-or None true n = refl
+not-found-or None false n = refl
+
+-- the first n of these values are all m
+pub all_taken : (y : List ℕ) (m n : ℕ) → n ≤ length y → list_all (λ v. eqb v m) (take n y) ≡ all_are n (λ i. get_or y i 0) m
+unfolding first_below
+all_taken y m zero l = refl
+all_taken y m (suc n) l =
+    let test : ℕ → Bool = λ i. not (eqb (get_or y i 0) m) in
+    rw (← add-one) (list_all_more (λ v. eqb v m) y n 0 (omega arith))
+    ∙ ap (λ b. b && eqb (get_or y n 0) m) (all_taken y m n (omega arith))
+    ∙ not-found-or (first_below n test) (eqb (get_or y n 0) m) n
 
 -- the n values are all m
 pub all_says : (n : ℕ) (y : ℕ → ℕ) (m : ℕ) → all_are n y m ≡ true → (i : ℕ) → i < n → y i ≡ m

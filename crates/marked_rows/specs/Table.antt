@@ -1,32 +1,32 @@
 -- The rows of a job as the code holds them: each by its conditions c fi(x) = g(x) yi, one for each output. (c, yi) is (1, the value) for a row of
 -- numbers, (0, 1) for a pole and (0, 0) for a silent row.
-use Rattle.std.specs.Prelude.{ℕ, ◌/◌, ◌%◌, cond, List, ltb, replicate}
+use Rattle.std.specs.Prelude.{ℕ, ◌/◌, ◌%◌, cond, List, ltb, replicate, Option, Some, None}
 use Rattle.lists.specs.Tabulated.{tabulate}
 use Rattle.header.specs.Header.{bounds_of}
 use Rattle.rows.specs.declared.Row.{Row}
 use Rattle.rows.specs.Rows.{job_point, value_or_zero}
 use Rattle.marked_rows.specs.declared.Mark.{Mark}
-use Rattle.marked_rows.specs.declared.Mark.TheVariants.{None, Pole, Silent}
+use Rattle.marked_rows.specs.declared.Mark.TheVariants.{Pole, Silent}
 use Rattle.marked_rows.specs.declared.RowConditions.{RowConditions}
 use Rattle.marked_rows.specs.Marks.{mark_at}
 
 -- c
-abbrev pub weight_of : Mark → ℕ
+abbrev pub weight_of : Option Mark → ℕ
 weight_of None = 1
-weight_of Pole = 0
-weight_of Silent = 0
+weight_of (Some Pole) = 0
+weight_of (Some Silent) = 0
 
 -- yi, where the row has the number y
-abbrev pub right_side_of : Mark → (y : ℕ) → ℕ
+abbrev pub right_side_of : Option Mark → (y : ℕ) → ℕ
 right_side_of None y = y
-right_side_of Pole y = 1
-right_side_of Silent y = 0
+right_side_of (Some Pole) y = 1
+right_side_of (Some Silent) y = 0
 
 -- one row
-abbrev pub conditions_by : Mark → Row → RowConditions
+abbrev pub conditions_by : Option Mark → Row → RowConditions
 conditions_by None row = record { point = row.point; weight = 1; values = row.values; speaking = 1 }
-conditions_by Pole row = record { point = row.point; weight = 0; values = replicate 4 1; speaking = 1 }
-conditions_by Silent row = record { point = row.point; weight = 0; values = replicate 4 0; speaking = 0 }
+conditions_by (Some Pole) row = record { point = row.point; weight = 0; values = replicate 4 1; speaking = 1 }
+conditions_by (Some Silent) row = record { point = row.point; weight = 0; values = replicate 4 0; speaking = 0 }
 
 -- the points of all rows; here and below places that are no rows hold 0
 unfoldable pub job_points : List ℕ → List ℕ

@@ -8,10 +8,14 @@ ghost use Rattle.marked_rows.specs.Table.{conditions_by, job_points, job_weights
 
 use rows::{Row, row_at};
 
-// What a row's values are: numbers, or one of the two marks.
-#[derive(Clone, Copy)]
+// The value of every output in a row that reports a pole, and in one that is silent.
+const POLE: u32 = 65535;
+
+const SILENT: u32 = 65534;
+
+// What a row is marked with whose values are no numbers.
+#[derive(Clone, Copy, Debug, PartialEq, Eq)]
 pub enum Mark {
-    None,
     Pole,
     Silent,
 }
@@ -40,29 +44,24 @@ fn all_are(values: [u32; 4], outputs: usize, m: u32) -> bool
     requires { outputs ≤ 4 }
     ensures { result ≡ all_are outputs (λ i. get_or values i 0) m }
 {
-    for i in 0..outputs {
-        if values[i] != m {
-            return false;
-        }
-    }
-    true
+    values[..outputs].iter().all(|value| *value == m)
 }
 
-// What a row is marked with, where marks are allowed.
-fn mark_of(row: Row, outputs: usize, marks: bool) -> Mark
+// What a row is marked with, where marks are allowed; nothing where its values are numbers.
+fn mark_of(row: Row, outputs: usize, marks: bool) -> Option<Mark>
     requires { outputs ≤ 4 }
     ensures { result ≡ mark_of marks outputs (λ i. get_or row.values i 0) }
 {
     let values = row.values;
     if marks {
-        if all_are(values, outputs, 65535) {
-            return Mark::Pole;
+        if all_are(values, outputs, POLE) {
+            return Some(Mark::Pole);
         }
-        if all_are(values, outputs, 65534) {
-            return Mark::Silent;
+        if all_are(values, outputs, SILENT) {
+            return Some(Mark::Silent);
         }
     }
-    Mark::None
+    None
 }
 
 // The row by its conditions: 0 fi(x) = g(x) for a pole, 0 = 0 for a silent row.
@@ -73,22 +72,22 @@ pub fn row_conditions(row: Row, outputs: usize, marks: bool) -> RowConditions
     let point = row.point;
     let values = row.values;
     match mark_of(row, outputs, marks) {
-        Mark::None => RowConditions {
-            point: point,
+        None => RowConditions {
+            point,
             weight: 1,
-            values: values,
+            values,
             speaking: 1,
         },
-        Mark::Pole => RowConditions {
-            point: point,
+        Some(Mark::Pole) => RowConditions {
+            point,
             weight: 0,
-            values: [1u32; 4],
+            values: [1; 4],
             speaking: 1,
         },
-        Mark::Silent => RowConditions {
-            point: point,
+        Some(Mark::Silent) => RowConditions {
+            point,
             weight: 0,
-            values: [0u32; 4],
+            values: [0; 4],
             speaking: 0,
         },
     }
@@ -112,16 +111,13 @@ pub fn read_table(job: &[u8], start: usize, rows: usize, outputs: usize, marks: 
         let at = r * 4;
         points[r] = row.point;
         weights[r] = row.weight;
-        values[at] = v[0];
-        values[at + 1] = v[1];
-        values[at + 2] = v[2];
-        values[at + 3] = v[3];
-        speaking = speaking + row.speaking;
+        values[at..at + 4].copy_from_slice(&v);
+        speaking += row.speaking;
     }
     Table {
-        points: points,
-        weights: weights,
-        values: values,
-        speaking: speaking,
+        points,
+        weights,
+        values,
+        speaking,
     }
 }

@@ -49,9 +49,9 @@ module _ (s : List ℕ) (r : ℕ) where
   row_here = λ i. record { point = column 0 (omega arith) i; values = tabulate_cong 4 _ _ (λ k l. value k (lt_or_ge k (bounds_of s).outputs)) i }
 
   -- the row's own bytes, from its start to its end, are the row
-  pub row-part : (start n : ℕ) → start ≡ header_length_of s → n ≡ (bounds_of s).outputs
+  pub row_part : (start n : ℕ) → start ≡ header_length_of s → n ≡ (bounds_of s).outputs
       → row_of (take (start + 2 * (r * (1 + n)) + 2 * (1 + n) - (start + 2 * (r * (1 + n)))) (drop (start + 2 * (r * (1 + n))) s)) n ≡ row_at s r
   unfolding part
-  row-part start n first e =
+  row_part start n first e =
       let size : start + 2 * (r * (1 + n)) + 2 * (1 + n) - (start + 2 * (r * (1 + n))) ≡ 2 * (1 + n) = omega arith in
       rw (size, first, e) row_here

@@ -2,12 +2,12 @@
 #![tactic(auto)]
 
 ghost use Rattle.std.specs.Prelude.{◌+◌, ◌*◌, ◌<◌, ◌≤◌, ◌≡◌, length};
-ghost use Rattle.format.specs.Numbers.{number_from};
+ghost use Rattle.format.specs.Numbers.{number_from, word_from};
 ghost use Rattle.header.specs.Header.{header_length_of, bounds_of};
 ghost use Rattle.rows.specs.Steps.{row_of, row_at};
 
-use cursor::wide;
 use read_u64::{part, read_u64};
+use std::array;
 
 #[derive(Clone, Copy)]
 pub struct Row {
@@ -20,7 +20,15 @@ pub fn number_from(s: &[u8], k: usize) -> u32
     requires { k + 1 < length s.now }
     ensures { result ≡ number_from s.now k }
 {
-    wide(s[k]) * 256 + wide(s[k + 1])
+    u32::from(u16::from_be_bytes([s[k], s[k + 1]]))
+}
+
+// The word of the first four bytes.
+pub fn word_from(s: &[u8]) -> u32
+    requires { 4 ≤ length s.now }
+    ensures { result ≡ word_from s.now }
+{
+    u32::from_be_bytes([s[0], s[1], s[2], s[3]])
 }
 
 // A row of four or five numbers: the first four from one word, the one left over singly.
@@ -29,17 +37,14 @@ fn read_long_row(bytes: &[u8], outputs: usize) -> Row
     ensures { result ≡ row_of bytes.now outputs }
 {
     let word = read_u64(bytes);
-    let point = part(word, 0);
-    let mut values = [0u32; 4];
-    values[0] = part(word, 1);
-    values[1] = part(word, 2);
-    values[2] = part(word, 3);
-    if outputs == 4 {
-        values[3] = number_from(bytes, 8);
-    }
+    let last = if outputs == 4 {
+        number_from(bytes, 8)
+    } else {
+        0
+    };
     Row {
-        point: point,
-        values: values,
+        point: part(word, 0),
+        values: [part(word, 1), part(word, 2), part(word, 3), last],
     }
 }
 
@@ -48,14 +53,15 @@ fn read_short_row(bytes: &[u8], outputs: usize) -> Row
     requires { (outputs < 3) × (length bytes.now ≡ 2 * (1 + outputs)) }
     ensures { result ≡ row_of bytes.now outputs }
 {
-    let point = number_from(bytes, 0);
-    let mut values = [0u32; 4];
-    for i in 0..outputs {
-        values[i] = number_from(bytes, 2 * (1 + i));
-    }
     Row {
-        point: point,
-        values: values,
+        point: number_from(bytes, 0),
+        values: array::from_fn(|i| {
+            if i < outputs {
+                number_from(bytes, 2 * (1 + i))
+            } else {
+                0
+            }
+        }),
     }
 }
 
@@ -71,6 +77,7 @@ fn read_row(bytes: &[u8], outputs: usize) -> Row
 }
 
 // Row r of the job, read through its own bytes; the rows begin at a byte called start.
+#[tactic(auto, using(crate::proofs::RowPlaces::row_ends, crate::proofs::RowPlaces::row_part))]
 pub fn row_at(job: &[u8], start: usize, r: usize, rows: usize, outputs: usize) -> Row
     requires within { (start ≤ 7) × (r < rows) × (rows ≤ 31) × (outputs ≤ 4) × (length job.now ≡ start + 2 * rows * (1 + outputs)) }
     requires from_header { (start ≡ header_length_of job.now) × (outputs ≡ (bounds_of job.now).outputs) }

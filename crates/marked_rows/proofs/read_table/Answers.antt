@@ -15,7 +15,7 @@ use Rattle.rows.specs.Steps.{row_at}
 use Rattle.marked_rows.specs.declared.RowConditions.{RowConditions}
 use Rattle.marked_rows.specs.Marks.{mark_at, speaks, speaking_count}
 use Rattle.marked_rows.specs.Table.{conditions_by, job_points, job_weights, job_values}
-use Rattle.marked_rows.proofs.Filling.{fill_four}
+use Rattle.marked_rows.proofs.Filling.{filled_part}
 use Rattle.marked_rows.proofs.Entries.{conditions-read, conditions_point, conditions_weight, conditions-speaking, conditions-values}
 use Rattle.marked_rows.proofs.read_table.Goals as goal
 
@@ -27,26 +27,33 @@ pub loop-r-init : goal.loop-r-init
 unfolding count_below
 loop-r-init c = (search rules, filled_none 32 _ _ refl, filled_none 32 _ _ refl, filled_none 128 _ _ refl, refl)
 
+-- the rows that speak, with the one that is read
+counted : (s : List ℕ) (r : ℕ) {count : ℕ} {x : RowConditions} → count ≡ count_below r (speaks s) → x ≡ conditions_by (mark_at s r) (row_at s r)
+    → (count + x.speaking ≡ count_below (r + 1) (speaks s)) × (count + x.speaking ≤ r + 1)
+counted s r before row = count_more _ _ before (ap (λ (x : RowConditions). x.speaking) row ∙ conditions-speaking (mark_at s r) (row_at s r))
+
 pub loop-r-preserved : goal.loop-r-preserved
 loop-r-preserved c =
-    let bytes : List ℕ = c.args.job.now in
-    let row_read : c.row_conditions-row.result ≡ conditions_by (mark_at bytes c.loop-r.r) (row_at bytes c.loop-r.r) = (let pre = c.requires.from_header in
-    conditions-read bytes c.loop-r.r c.row_at-read.ensures pre.3 pre.2 c.row_conditions-row.ensures) in
-    -- the rows that speak, with this one
-    let counted : let count = c.loop-r.speaking + c.row_conditions-row.result.speaking in
-    (count ≡ count_below (c.loop-r.r + 1) (speaks bytes)) × (count ≤ c.loop-r.r + 1) = count_more _ _ c.loop-r.invariant.4 (ap (λ (x : RowConditions). x.speaking) row_read ∙ conditions-speaking (mark_at bytes c.loop-r.r) (row_at bytes c.loop-r.r)) in
-    let s = bytes in
+    let s = c.args.job.now in
     let r = c.loop-r.r in
     let inv = c.loop-r.invariant in
+    let pre = c.requires.from_header in
+    let row = conditions-read s r c.row_at-read.ensures pre.3 pre.2 c.row_conditions-row.ensures in
     let next : r * 4 + 4 ≡ (r + 1) * 4 = omega arith in
-    let row = row_read in
     let mark = mark_at s r in (
       omega arith,
       filled_more inv.1 _ (omega arith) (ap (λ (x : RowConditions). x.point) row ∙ conditions_point mark (row_at s r) ∙ point s r),
       filled_more inv.2 _ (omega arith) (ap (λ (x : RowConditions). x.weight) row ∙ conditions_weight mark (row_at s r)),
-      rw (← next) (fill_four inv.3 c.row_conditions-row.result.values (omega arith) (λ i l. ap (λ (x : RowConditions). get_or x.values i 0) row ∙ conditions-values s r i l)),
-      counted.0,
+      rw (← next) (filled_part inv.3 _ 4 (search rules) (omega arith) (λ i l.
+          ap (λ (v : List ℕ). get_or v i 0) c.copy_from_slice.ensures.after ∙ ap (λ (x : RowConditions). get_or x.values i 0) row ∙ conditions-values s r i l)),
+      (counted s r inv.4 row).0,
     )
+
+pub overflow_add-speaking : goal.overflow_add-speaking
+overflow_add-speaking c =
+    let pre = c.requires.from_header in
+    let row = conditions-read c.args.job.now c.loop-r.r c.row_at-read.ensures pre.3 pre.2 c.row_conditions-row.ensures in
+    omega (arith, (counted c.args.job.now c.loop-r.r c.loop-r.invariant.4 row).1)
 
 pub returns : goal.returns
 unfolding job_points job_weights job_values speaking_count
@@ -58,13 +65,3 @@ returns c =
       filled_where c.loop-r.invariant.3 (λ k. ltb (k / 4) (bounds_of s).rows) (λ k l. lt-ltb (k / 4) _ (omega arith)) (λ k l. le-ltb (k / 4) _ (omega arith)),
       rw (← e) c.loop-r.invariant.4,
     )
-
-pub overflow_add-speaking : goal.overflow_add-speaking
-overflow_add-speaking c =
-    let bytes : List ℕ = c.args.job.now in
-    let row_read : c.row_conditions-row.result ≡ conditions_by (mark_at bytes c.loop-r.r) (row_at bytes c.loop-r.r) = (let pre = c.requires.from_header in
-    conditions-read bytes c.loop-r.r c.row_at-read.ensures pre.3 pre.2 c.row_conditions-row.ensures) in
-    -- the rows that speak, with this one
-    let counted : let count = c.loop-r.speaking + c.row_conditions-row.result.speaking in
-    (count ≡ count_below (c.loop-r.r + 1) (speaks bytes)) × (count ≤ c.loop-r.r + 1) = count_more _ _ c.loop-r.invariant.4 (ap (λ (x : RowConditions). x.speaking) row_read ∙ conditions-speaking (mark_at bytes c.loop-r.r) (row_at bytes c.loop-r.r)) in
-    omega (arith, counted.1)

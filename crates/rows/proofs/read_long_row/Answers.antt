@@ -2,12 +2,13 @@
 use Prim.Native.Nat.{ℕ, ◌+◌, ◌*◌, ◌≤◌, ◌<◌}
 use mathlib.Core.Bool.{cond}
 use mathlib.Core.List.{List, [], ◌∷◌}
-use mathlib.Core.Path.{◌≡◌, refl, sym, ap, ◌∙◌}
-use borrow.Author.Tests.{lt-ltb, le-ltb}
+use mathlib.Core.Path.{◌≡◌, ap, ◌∙◌}
+use borrow.Author.Tests.{lt-ltb}
 use lib.Dec.{ltb}
 use lib.ListN.{get_or}
 use native.Mathlib.Nat.{zero-add}
 use native.Mathlib.Omega.{arith}
+use Rattle.std.proofs.lemmas.Bool.Decides.{nat_tests}
 use Rattle.format.specs.Numbers.{number_from}
 use Rattle.lists.specs.Tabulated.{tabulate}
 use Rattle.read_u64.specs.Words.{joined_bytes, part_of}
@@ -40,23 +41,12 @@ module _ (bytes : List ℕ) (outputs w : ℕ) (small : (k : ℕ) → get_or byte
       let third = value 2 (omega arith) (omega arith) ez in
       λ i. record { point = point i; values = first i ∷ second i ∷ third i ∷ last i ∷ [] }
 
-pub returns-then-outputs-eq4 : goal.returns-then-outputs-eq4
-returns-then-outputs-eq4 c =
+pub returns : goal.returns
+returns c =
     row c.args.bytes.now c.args.outputs c.read_u64-word.result (λ k. (c.type_inv.bytes k).fits) c.read_u64-word.ensures
     (omega arith)
-    c.part-point.ensures
     c.part.ensures
     c.part-2.ensures
     c.part-3.ensures
-    (c.number_from.ensures ∙ sym (simp c.if-outputs-eq4.true))
-
-pub returns-else-outputs-eq4 : goal.returns-else-outputs-eq4
-returns-else-outputs-eq4 c =
-    let none = le-ltb 3 c.args.outputs (omega arith) in
-    row c.args.bytes.now c.args.outputs c.read_u64-word.result (λ k. (c.type_inv.bytes k).fits) c.read_u64-word.ensures
-    (omega arith)
-    c.part-point.ensures
-    c.part.ensures
-    c.part-2.ensures
-    c.part-3.ensures
-    (rw none refl)
+    c.part-4.ensures
+    (grind (arith, nat_tests))
