@@ -28,10 +28,10 @@ use Rattle.lists.proofs.FirstBelow.{first_cong, none_below}
 use Rattle.marked_rows.proofs.Entries.{points_at, values_at}
 
 -- what stands for the values of a marked row is below p
-pub values_in_table : (m : Mark) (p n : ℕ) (y : ℕ → ℕ) → 2 ≤ p → any_below n (λ i. leb p (right_side_of m (y i))) ≡ (is_unmarked m && any_below n (λ i. leb p (y i)))
-values_in_table mark.None p n y two = refl
-values_in_table mark.Pole p n y two = ap is_found (none_below _ n (λ i l. lt-leb p 1 (omega arith)))
-values_in_table mark.Silent p n y two = ap is_found (none_below _ n (λ i l. lt-leb p 0 (omega arith)))
+pub values_in_table : (m : Option Mark) (p n : ℕ) (y : ℕ → ℕ) → 2 ≤ p → any_below n (λ i. leb p (right_side_of m (y i))) ≡ (is_unmarked m && any_below n (λ i. leb p (y i)))
+values_in_table None p n y two = refl
+values_in_table (Some mark.Pole) p n y two = ap is_found (none_below _ n (λ i l. lt-leb p 1 (omega arith)))
+values_in_table (Some mark.Silent) p n y two = ap is_found (none_below _ n (λ i l. lt-leb p 0 (omega arith)))
 
 module _ (s : List ℕ) where
   out_of_range-same : first_below (bounds_of s).rows

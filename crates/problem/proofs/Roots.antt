@@ -14,7 +14,8 @@ use Rattle.field.proofs.Moduli.{modulus_prime}
 use Rattle.format.specs.Bounds.{prime_of}
 use Rattle.header.specs.Header.{bounds_of}
 use Rattle.rows.specs.Rows.{job_point, job_value}
-use Rattle.marked_rows.specs.declared.Mark.TheVariants.{None, Pole}
+use Rattle.std.specs.Prelude.{Option, Some, None}
+use Rattle.marked_rows.specs.declared.Mark.TheVariants.{Pole}
 use Rattle.marked_rows.specs.Marks.{mark_at}
 use Rattle.problem.specs.Rows.{wrong_row}
 use Rattle.problem.specs.Reduced.{Divides, Reduced}
@@ -93,5 +94,5 @@ module _ (s : List ℕ) {f : ℕ → List ℕ} {g : List ℕ} (R : Reduced (prim
       unmarked_verdict (prime_of (bounds_of s)) (bounds_of s).outputs (job_point s r) (job_value s r) f g e
       ∙ root_wrong (prime_of (bounds_of s)) (job_point s r) (modulus_prime (bounds_of s).prime).two R root (job_value s r)
 
-  pub root_pole : mark_at s r ≡ Pole → wrong_at s f g r ≡ false
+  pub root_pole : mark_at s r ≡ Some Pole → wrong_at s f g r ≡ false
   root_pole e = pole_verdict (prime_of (bounds_of s)) (bounds_of s).outputs (job_point s r) (job_value s r) f g e ∙ ap (λ v. not (eqb v 0)) root

@@ -1,9 +1,9 @@
 -- Paper 01, "The object", and paper 02, item 6: which rows are right, wrong or silent for a polynomial g and polynomials f1 to fn modulo p.
 -- Outputs are counted from 0 here: output i has the polynomial f i and, in a row, the value y i.
-use Rattle.std.specs.Prelude.{Bool, true, false, cond, List, ℕ, zero, suc, ◌*◌, ◌%◌, eqb}
+use Rattle.std.specs.Prelude.{Bool, true, false, cond, List, ℕ, zero, suc, ◌*◌, ◌%◌, eqb, Option, Some, None}
 use Rattle.poly.specs.Operations.{value_of}
 use Rattle.marked_rows.specs.declared.Mark.{Mark}
-use Rattle.marked_rows.specs.declared.Mark.TheVariants.{None, Pole, Silent}
+use Rattle.marked_rows.specs.declared.Mark.TheVariants.{Pole, Silent}
 
 -- "fi(ξ) = g(ξ) × yi modulo p", for one output with the polynomial f and the value y, at the point x
 abbrev pub right_output : (p x : ℕ) (g f : List ℕ) (y : ℕ) → Bool
@@ -23,10 +23,10 @@ pub data Verdict : Type 0 where
 
 -- by its mark: a row of numbers as above; "a row whose values are all 65535 reports a pole: it is right exactly if g is 0 at its point"; "A row whose values
 -- are all 65534 is silent, neither right nor wrong"
-abbrev pub verdict_of : Mark → (p n x : ℕ) (y : ℕ → ℕ) (f : ℕ → List ℕ) (g : List ℕ) → Verdict
+abbrev pub verdict_of : Option Mark → (p n x : ℕ) (y : ℕ → ℕ) (f : ℕ → List ℕ) (g : List ℕ) → Verdict
 verdict_of None p n x y f g = cond (wrong_row p n x y f g) WrongRow RightRow
-verdict_of Pole p n x y f g = cond (eqb (value_of p x g) 0) RightRow WrongRow
-verdict_of Silent p n x y f g = SilentRow
+verdict_of (Some Pole) p n x y f g = cond (eqb (value_of p x g) 0) RightRow WrongRow
+verdict_of (Some Silent) p n x y f g = SilentRow
 
 abbrev pub is_wrong : Verdict → Bool
 is_wrong RightRow = false

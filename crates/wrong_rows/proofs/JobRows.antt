@@ -21,7 +21,7 @@ use Rattle.header.specs.Header.{bounds_of}
 use Rattle.header.proofs.Fields.{fits_fields}
 use Rattle.rows.specs.Rows.{job_point, job_value}
 use Rattle.marked_rows.specs.declared.Mark.{Mark}
-use Rattle.marked_rows.specs.declared.Mark.TheVariants.{None as Unmarked, Pole, Silent}
+use Rattle.marked_rows.specs.declared.Mark.TheVariants.{Pole, Silent}
 use Rattle.marked_rows.specs.Marks.{mark_at}
 use Rattle.marked_rows.specs.Table.{weight_of, right_side_of, job_points, job_weights, job_values}
 use Rattle.marked_rows.proofs.Entries.{points_at, weights_at, values_at}
@@ -100,12 +100,12 @@ module _ (p x : ℕ) (f : ℕ → List ℕ) (g : List ℕ) where
       by (suc n) true e = ap (λ v. cond (eqb v (value_of p x g * y % p)) (fails_row p n 0 x (λ i. y) f g) true) (zero-mul _) ∙ rw e (by n true e)
 
   -- by the row's mark
-  fails_verdict : 0 < p → (m : Mark) (n : ℕ) (y : ℕ → ℕ) → fails_row p (suc n) (weight_of m) x (λ i. right_side_of m (y i)) f g ≡ is_wrong (verdict_of m p (suc n) x y f g)
-  fails_verdict positive Unmarked n y = fails_unmarked (suc n) y ∙ sym (unmarked_verdict p (suc n) x y f g refl)
-  fails_verdict positive Pole n y =
+  fails_verdict : 0 < p → (m : Option Mark) (n : ℕ) (y : ℕ → ℕ) → fails_row p (suc n) (weight_of m) x (λ i. right_side_of m (y i)) f g ≡ is_wrong (verdict_of m p (suc n) x y f g)
+  fails_verdict positive None n y = fails_unmarked (suc n) y ∙ sym (unmarked_verdict p (suc n) x y f g refl)
+  fails_verdict positive (Some Pole) n y =
       let value : value_of p x g * 1 % p ≡ value_of p x g = ap (λ v. v % p) (mul-one _) ∙ mod-eq_of_lt (value_below p x g positive) in
       fails_marked n 1 ∙ ap not (ap (eqb 0) value ∙ zero_first (value_of p x g)) ∙ sym (pole_verdict p (suc n) x y f g refl)
-  fails_verdict positive Silent n y = fails_marked n 0 ∙ ap (λ v. not (eqb 0 v)) (ap (λ v. v % p) (mul-zero (value_of p x g)) ∙ zero-mod p)
+  fails_verdict positive (Some Silent) n y = fails_marked n 0 ∙ ap (λ v. not (eqb 0 v)) (ap (λ v. v % p) (mul-zero (value_of p x g)) ∙ zero-mod p)
 
 -- a row of the arrays is wrong exactly if that row of the job is
 pub same_wrong : (s : List ℕ) (f : ℕ → List ℕ) (g : List ℕ) (r : ℕ) → r < (bounds_of s).rows
