@@ -4,67 +4,35 @@
 ghost use Rattle.std.specs.Prelude.{◌≡◌};
 ghost use Rattle.format.specs.Bounds.{EnoughRows};
 ghost use Rattle.candidate.specs.Candidates.{RowsInRange};
-ghost use Rattle.solver.specs.Solutions.{unsolved_solution, solution_for};
+ghost use Rattle.solver.specs.Solutions.{solution_for};
 
-use format::{Bounds, Outcome, Reason};
-use poly::Poly;
+use format::{Bounds, Reason, Refusal};
+use marked_rows::Table;
+use poly::Vector;
 
-// What the solver found: Accepted if there is an answer, and then its word of wrong rows, their count, g and the numerators; refused with zeros beside it
-// if there is none.
+// An answer, with the word of its wrong rows and their count.
 #[derive(Clone, Copy)]
 pub struct Solution {
-    pub outcome: Outcome,
     pub word: u32,
     pub wrong: u32,
-    pub g: Poly,
-    pub f: [Poly; 4],
+    pub vector: Vector,
 }
 
-fn unsolved() -> Solution
-    ensures { result ≡ unsolved_solution }
+// The candidate of all outputs, if at most E rows are wrong for it.
+pub fn solve(b: Bounds, table: &Table) -> Result<Solution, Refusal>
+    requires { EnoughRows b × RowsInRange b table.now.speaking table.now.points table.now.weights }
+    ensures { result ≡ solution_for b table.now.speaking table.now.points table.now.weights table.now.values }
 {
-    let outcome = Outcome::Refused {
-        reason: Reason::NoAnswer,
-        row: 0,
-    };
-    let none = poly::zero();
-    Solution {
-        outcome: outcome,
-        word: 0,
-        wrong: 0,
-        g: none,
-        f: [none; 4],
-    }
-}
-
-// The candidate of all outputs, if at most E rows are wrong for it. So many rows speak.
-pub fn solve(
-    b: Bounds,
-    speaking: usize,
-    points: [u32; 32],
-    weights: [u16; 32],
-    values: [u32; 128],
-) -> Solution
-    requires { EnoughRows b × RowsInRange b speaking points weights }
-    ensures { result ≡ solution_for b speaking points weights values }
-{
-    let c = candidate::after_outputs(b, speaking, points, weights, values);
-    if !c.solvable {
-        return unsolved();
-    }
-    let g = c.g;
-    let f = c.f;
-    let word = wrong_rows::wrong_rows(b, points, weights, values, g, f);
+    let no_answer = Refusal::from(Reason::NoAnswer);
+    let vector = candidate::after_outputs(b, table).ok_or(no_answer)?;
+    let word = wrong_rows::wrong_rows(b, table, &vector);
     let wrong = row_mask::wrong_count(word);
     if b.errors < wrong as usize {
-        return unsolved();
+        return Err(no_answer);
     }
-    let outcome = Outcome::Accepted;
-    Solution {
-        outcome: outcome,
-        word: word,
-        wrong: wrong,
-        g: g,
-        f: f,
-    }
+    Ok(Solution {
+        word,
+        wrong,
+        vector,
+    })
 }

@@ -11,7 +11,7 @@ use Rattle.algebra.proofs.Series.{Series, null_s, scale_s, mul_s}
 use Rattle.algebra.proofs.Degree.{HasDegree}
 use Rattle.algebra.proofs.Euclid.{CommonDivisor}
 use Rattle.algebra.proofs.LowestTerms.{LowestTerms, lowest_terms_of, monic_degree}
-use Rattle.reciprocal.specs.declared.OptionalReciprocal.TheVariants.{Number}
+use Rattle.std.specs.Prelude.{Some}
 use Rattle.field.proofs.Primality.{IsPrime}
 use Rattle.reciprocal.proofs.PrimeField.{Residue, residue, residue_unit, mul_r, residue_ring, residue_field}
 use Rattle.poly.specs.Coefficients.{Bounded, Stored}
@@ -104,7 +104,7 @@ module _ (p : ℕ) (P : IsPrime p) where
     unit : ℕ
     unit = (unit_number P sa sb nonzero).0
 
-    unit_is : Number unit ≡ unit_of p phi psi
+    unit_is : Some unit ≡ unit_of p phi psi
     unfolding unit
     unit_is = (unit_number P sa sb nonzero).1
 

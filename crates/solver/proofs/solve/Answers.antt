@@ -1,45 +1,28 @@
--- The word and the count that were computed are those of the candidate; the three branches are those of `judged_solution`.
-use mathlib.Core.Path.{◌≡◌, ap, ◌∙◌}
+-- The word and the count that were computed are those of the candidate; the two branches are those of `counted_solution`.
+use mathlib.Core.Path.{◌≡◌, sym, ap, ◌∙◌}
 use native.Mathlib.Omega.{arith}
-use borrow.Author.Tests.{not-true, not-false}
-use Rattle.solver.specs.Solutions.{word_by, judged_solution}
+use Rattle.std.specs.Prelude.{Some, Err}
 use Rattle.row_mask.specs.Word.{wrong_count_of}
-use Rattle.solver.proofs.SolutionLaws.{fits_polynomials, fits-judge, judged_unsolvable, judged_solvable, counted_many, counted_few}
+use Rattle.solver.specs.Solutions.{word_by, judged_solution}
+use Rattle.solver.proofs.SolutionLaws.{counted_many, counted_few}
 use Rattle.solver.proofs.solve.Goals as goal
-
-pub returns-then-not-c : goal.returns-then-not-c
-returns-then-not-c c =
-    let g = c.args in
-    c.unsolved.ensures ∙ judged_unsolvable g.b g.points g.weights g.values c.after_outputs-c.result (not-true _ c.if-not-c.true)
-    ∙ ap (judged_solution g.b g.points g.weights g.values) c.after_outputs-c.ensures.0
-
-pub wrong_rows-word-requires : goal.wrong_rows-word-requires
-wrong_rows-word-requires c =
-    (omega (arith, c.requires.0.rows), fits_polynomials c.requires.0, fits-judge c.after_outputs-c.ensures.1)
 
 pub returns-then-b-wrong : goal.returns-then-b-wrong
 unfolding word_by
 returns-then-b-wrong c =
-    -- the word that was computed is the candidate's
-    let word_is : let g = c.args in
-    c.wrong_rows-word.result ≡ word_by g.b g.points g.weights g.values c.after_outputs-c.result = c.wrong_rows-word.ensures in
-    let count_is : let g = c.args in
-    c.wrong_count-wrong.result ≡ wrong_count_of (word_by g.b g.points g.weights g.values c.after_outputs-c.result) = c.wrong_count-wrong.ensures ∙ ap wrong_count_of word_is in
-    let g = c.args in
-    let k = c.after_outputs-c.result in
-    c.unsolved-then-b-wrong.ensures
-    ∙ counted_many g.b g.points g.weights g.values k (omega (arith, c.if-b-wrong.true, count_is))
-    ∙ judged_solvable g.b g.points g.weights g.values k (not-false _ c.if-not-c.false)
-    ∙ ap (judged_solution g.b g.points g.weights g.values) c.after_outputs-c.ensures.0
+    let b = c.args.b in
+    let t = c.args.table.now in
+    let v = c.in_ok-vector.vector in
+    let candidate : c.after_outputs.result ≡ Some c.in_ok-vector.vector = grind arith in
+    let count : c.wrong_count-wrong.result ≡ wrong_count_of (word_by c.args.b c.args.table.now.points c.args.table.now.weights c.args.table.now.values c.in_ok-vector.vector) = c.wrong_count-wrong.ensures ∙ ap wrong_count_of c.wrong_rows-word.ensures in
+    ap Err c.from-no_answer.ensures ∙ counted_many b t.points t.weights t.values v (omega arith)
+    ∙ ap (judged_solution b t.points t.weights t.values) (sym candidate ∙ c.after_outputs.ensures.value)
 
 pub returns : goal.returns
 unfolding word_by
 returns c =
-    -- the word that was computed is the candidate's
-    let word_is : let g = c.args in
-    c.wrong_rows-word.result ≡ word_by g.b g.points g.weights g.values c.after_outputs-c.result = c.wrong_rows-word.ensures in
-    let g = c.args in
-    let k = c.after_outputs-c.result in
-    counted_few g.b g.points g.weights g.values k word_is c.wrong_count-wrong.ensures (omega (arith, c.if-b-wrong.false))
-    ∙ judged_solvable g.b g.points g.weights g.values k (not-false _ c.if-not-c.false)
-    ∙ ap (judged_solution g.b g.points g.weights g.values) c.after_outputs-c.ensures.0
+    let b = c.args.b in
+    let t = c.args.table.now in
+    let candidate : c.after_outputs.result ≡ Some c.in_ok-vector.vector = grind arith in
+    counted_few b t.points t.weights t.values c.in_ok-vector.vector c.wrong_rows-word.ensures c.wrong_count-wrong.ensures (omega arith)
+    ∙ ap (judged_solution b t.points t.weights t.values) (sym candidate ∙ c.after_outputs.ensures.value)
