@@ -6,3 +6,4 @@ pub mod Places
 pub mod Ranges
 pub mod Written
 mod Numerators
+pub mod Searches

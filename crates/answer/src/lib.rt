@@ -9,9 +9,9 @@ ghost use Rattle.poly.specs.Vectors.{coefficients_at};
 ghost use Rattle.answer.specs.Bytes.{two_bytes, four_bytes, coefficient_bytes, output_bytes, answer_bytes};
 ghost use Rattle.lists.specs.Overwriting.{overwritten, spliced};
 
-pub use coefficients::{Vector, read_vector};
+pub use coefficients::read_vector;
 use format::Bounds;
-use poly::Poly;
+use poly::{Poly, Vector};
 
 // Writes these bytes to the area's start and returns how many there are.
 pub fn put_bytes(area: &mut [u8], bytes: &[u8]) -> usize
@@ -19,9 +19,7 @@ pub fn put_bytes(area: &mut [u8], bytes: &[u8]) -> usize
     ensures { (result ≡ length bytes.now) × (area.new ≡ overwritten bytes.now area.old) }
 {
     let count = bytes.len();
-    for k in 0..count {
-        area[k] = bytes[k];
-    }
+    area[..count].copy_from_slice(bytes);
     count
 }
 
@@ -30,11 +28,7 @@ fn put_word(area: &mut [u8], word: u32) -> usize
     requires { 4 ≤ length area.old }
     ensures { (result ≡ 4) × (area.new ≡ overwritten (four_bytes word) area.old) }
 {
-    area[0] = (word / 16777216 % 256) as u8;
-    area[1] = (word / 65536 % 256) as u8;
-    area[2] = (word / 256 % 256) as u8;
-    area[3] = (word % 256) as u8;
-    4
+    put_bytes(area, &word.to_be_bytes())
 }
 
 // Writes a 16-bit number from a place on and returns how many bytes it has.
@@ -42,47 +36,43 @@ pub fn put_number(area: &mut [u8], at: usize, value: u32) -> usize
     requires { at + 2 ≤ length area.old }
     ensures { (result ≡ 2) × (area.new ≡ spliced at (two_bytes value) area.old) }
 {
-    area[at] = (value / 256 % 256) as u8;
-    area[at + 1] = (value % 256) as u8;
+    area[at..at + 2].copy_from_slice(&value.to_be_bytes()[2..]);
     2
 }
 
 // Writes the first coefficients of a polynomial from a place on and returns how many bytes they have.
-fn put_coefficients(area: &mut [u8], at: usize, a: Poly, count: usize) -> usize
+fn put_coefficients(area: &mut [u8], at: usize, a: &Poly, count: usize) -> usize
     requires { (count ≤ 32) × (at + 2 * count ≤ length area.old) }
     ensures { (result ≡ 2 * count)
-        × (area.new ≡ spliced at (coefficient_bytes a.c count) area.old) }
+        × (area.new ≡ spliced at (coefficient_bytes a.now.c count) area.old) }
 {
     let mut written = 0;
-    for k in 0..count {
-        written += put_number(area, at + written, a.c[k]);
+    for coefficient in &a.c[..count] {
+        written += put_number(area, at + written, *coefficient);
     }
     written
 }
 
 // Writes the numerators from a place on and returns how many bytes they have.
-fn put_outputs(area: &mut [u8], at: usize, b: Bounds, f: [Poly; 4]) -> usize
-    requires { (FitsPolynomials b) × (at + length (output_bytes b (coefficients_at f) b.outputs) ≤ length area.old) }
-    ensures { (result ≡ length (output_bytes b (coefficients_at f) b.outputs))
-        × (area.new ≡ spliced at (output_bytes b (coefficients_at f) b.outputs) area.old) }
+fn put_outputs(area: &mut [u8], at: usize, b: Bounds, f: &[Poly; 4]) -> usize
+    requires { (FitsPolynomials b) × (at + length (output_bytes b (coefficients_at f.now) b.outputs) ≤ length area.old) }
+    ensures { (result ≡ length (output_bytes b (coefficients_at f.now) b.outputs))
+        × (area.new ≡ spliced at (output_bytes b (coefficients_at f.now) b.outputs) area.old) }
 {
-    let n = b.outputs;
     let mut written = 0;
-    for i in 0..n {
-        let fi = f[i];
-        written += put_coefficients(area, at + written, fi, b.numerator_bound(i) + 1);
+    for i in 0..b.outputs {
+        written += put_coefficients(area, at + written, &f[i], b.numerator_bound(i) + 1);
     }
     written
 }
 
 // Writes the answer to the area's start and returns how many bytes it wrote.
-pub fn write(area: &mut [u8], b: Bounds, word: u32, g: Poly, f: [Poly; 4]) -> usize
+pub fn write(area: &mut [u8], b: Bounds, word: u32, v: &Vector) -> usize
     requires { (FitsPolynomials b) × (answer_length_of b ≤ length area.old) }
     ensures { (result ≡ answer_length_of b)
-        × (area.new ≡ overwritten (answer_bytes b word g.c (coefficients_at f)) area.old) }
+        × (area.new ≡ overwritten (answer_bytes b word v.now.g.c (coefficients_at v.now.f)) area.old) }
 {
     let first = put_word(area, word);
-    let dg = b.dg;
-    let front = first + put_coefficients(area, first, g, dg + 1);
-    front + put_outputs(area, front, b, f)
+    let front = first + put_coefficients(area, first, &v.g, b.dg + 1);
+    front + put_outputs(area, front, b, &v.f)
 }

@@ -1,5 +1,4 @@
 -- After i outputs as many bytes are written as their coefficients have, behind each other from the place on.
-use Prim.Native.Nat.{◌-◌, ◌≤◌}
 use mathlib.Core.Path.{◌≡◌}
 use lib.ListN.{length}
 use Rattle.poly.specs.Vectors.{coefficients_at}
@@ -9,8 +8,4 @@ use Rattle.answer.proofs.put_outputs.Given as goal
 
 abbrev pub invariant-loop-i : goal.invariant-loop-i
 invariant-loop-i l =
-    (l.i ≤ l.n) × (length l.area ≡ length l.initial.area) × (l.written ≡ length (output_bytes l.b (coefficients_at l.f) l.i))
-    × (l.area ≡ spliced l.at (output_bytes l.b (coefficients_at l.f) l.i) l.initial.area)
-
-abbrev pub decreases-loop-i : goal.decreases-loop-i
-decreases-loop-i l = l.n - l.i
+    (l.written ≡ length (output_bytes l.b (coefficients_at l.f) l.i)) × (l.area ≡ spliced l.at (output_bytes l.b (coefficients_at l.f) l.i) l.initial.area)

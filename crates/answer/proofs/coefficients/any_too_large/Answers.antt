@@ -1,37 +1,22 @@
-use Prim.Native.Nat.{ℕ, ◌*◌, ◌/◌}
-use mathlib.Core.Bool.{Bool}
-use mathlib.Core.List.{List}
-use mathlib.Core.Path.{◌≡◌, ap, ◌∙◌}
-use borrow.Author.Tests.{le-leb, lt-leb}
-use native.Mathlib.Omega.{arith}
+-- The library tests all numbers of the bytes (`any_listed`); p is the prime, by what `modulus` promises.
+use mathlib.Core.Path.{◌≡◌, refl, ap, ◌∙◌}
+use Prim.Native.Nat.{◌*◌, ◌/◌}
+use borrow.Author.Rules.{rules}
+use borrow.Author.Tests.{tests}
 use lib.Dec.{leb}
 use lib.ListN.{length}
+use native.Mathlib.Omega.{arith}
+use Rattle.std.specs.List.{list_any, range_with_len}
+use Rattle.std.proofs.lemmas.Iterator.{YieldsList-from_range}
+use Rattle.std.proofs.lemmas.Iterator.Search.{any_from_yields_List}
 use Rattle.format.specs.Numbers.{number_from}
-use Rattle.format.specs.declared.Bounds.{Bounds}
-use Rattle.format.specs.Bounds.{prime_of}
-use Rattle.lists.specs.Search.{is_found, any_below}
-use Rattle.lists.proofs.FirstBelow.{search_start, search_next, search_found, search_end}
-use Rattle.answer.specs.Coefficients.{any_too_large}
+use Rattle.lists.specs.Search.{any_below}
+use Rattle.answer.proofs.Searches.{any_listed}
 use Rattle.answer.proofs.coefficients.any_too_large.Goals as goal
-
--- p is the prime
-too-large-with : {p : ℕ} (b : Bounds) (s : List ℕ) {r : Bool} → p ≡ prime_of b → r ≡ any_below (length s / 2) (λ k. leb p (number_from s (2 * k))) → r ≡ any_too_large b s
-too-large-with b s e h = h ∙ ap (λ p. any_below (length s / 2) (λ k. leb p (number_from s (2 * k)))) e
-
-pub returns-then-p-number_from : goal.returns-then-p-number_from
-returns-then-p-number_from c =
-    let n = c.number_from.ensures in
-    too-large-with c.args.b c.args.bytes.now c.modulus-p.ensures (ap is_found (search_found _ c.loop-k.invariant (omega arith) (le-leb _ _ (rw n at c.if-p-number_from.true))))
-
-pub loop-k-preserved : goal.loop-k-preserved
-loop-k-preserved c =
-    let n = c.number_from.ensures in
-    search_next _ c.loop-k.invariant (omega arith) (lt-leb _ _ (rw n at c.if-p-number_from.false))
 
 pub returns : goal.returns
 returns c =
-    let g = c.args in
-    too-large-with g.b g.bytes.now c.modulus-p.ensures (ap is_found (search_end _ c.loop-k.invariant (omega arith)))
-
-pub loop-k-init : goal.loop-k-init
-loop-k-init c = search_start _ _
+    let s = c.args.bytes.now in
+    let tested : c.any.result ≡ list_any (λ k. leb c.modulus-p.result (number_from s (2 * k))) (range_with_len 0 (length s / 2)) =
+    any_from_yields_List (λ k. leb c.modulus-p.result (number_from s (2 * k))) _ _ c.any.result c.any.ensures.ran (YieldsList-from_range 0 (length s / 2) (length s / 2) refl (omega arith)) (λ x b q k. search (rules, tests)) in
+    tested ∙ any_listed _ _ ∙ ap (λ p. any_below (length s / 2) (λ k. leb p (number_from s (2 * k)))) c.modulus-p.ensures

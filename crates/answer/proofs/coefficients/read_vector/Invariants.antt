@@ -1,5 +1,5 @@
 -- The numerators before i are read, and `from` is where the next one stands.
-use Prim.Native.Nat.{◌+◌, ◌-◌, ◌≤◌}
+use Prim.Native.Nat.{◌+◌}
 use mathlib.Core.Path.{◌≡◌}
 use Rattle.answer.specs.Bytes.{numerator_start}
 use Rattle.answer.proofs.Numerators.{Filled}
@@ -7,7 +7,4 @@ use Rattle.answer.proofs.coefficients.read_vector.Given as goal
 
 abbrev pub invariant-loop-i : goal.invariant-loop-i
 invariant-loop-i l =
-    (l.i ≤ l.n) × (l.from + 4 ≡ numerator_start l.b l.i) × Filled l.b l.bytes l.i l.f
-
-abbrev pub decreases-loop-i : goal.decreases-loop-i
-decreases-loop-i l = l.n - l.i
+    (l.from + 4 ≡ numerator_start l.b l.i) × Filled l.b l.bytes l.i l.f
