@@ -50,9 +50,6 @@ pub gcd-c-requires : goal.gcd-c-requires
 gcd-c-requires c =
     (omega arith, rw c.length-la.ensures.0 (bounded_length c.requires.1), c.length-lb.ensures.0, rw c.length-lb.ensures.0 (bounded_length c.requires.2))
 
-pub length-lc-requires : goal.length-lc-requires
-length-lc-requires c = (omega arith, λ k l. c.gcd-c.ensures.1.within k (omega arith))
-
 pub divide-a-requires : goal.divide-a-requires
 divide-a-requires c = (
   omega arith,

@@ -1,4 +1,4 @@
-use mathlib.Core.Path.{◌≡◌, refl, sym, ap, ◌∙◌}
+use mathlib.Core.Path.{refl, sym, ap, ◌∙◌}
 use native.Mathlib.Omega.{arith}
 use Rattle.field.specs.Primes.{modulus_of}
 use Rattle.field.proofs.Moduli.{modulus_prime}
@@ -34,8 +34,3 @@ loop-i-preserved c =
     let p = modulus_of c.args.q in
     let f = coefficients_at c.args.v.now.f in
     c.gcd-c.ensures.0 ∙ ap (gcd_of p (f c.loop-i.i)) c.loop-i.invariant ∙ sym (common_next p f c.args.v.now.g.c c.loop-i.i)
-
-pub returns : goal.returns
-returns c =
-    let all : c.loop-i.i ≡ c.args.outputs = omega arith in
-    rw all at c.loop-i.invariant
