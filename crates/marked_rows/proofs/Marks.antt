@@ -14,14 +14,10 @@ use Rattle.std.proofs.lemmas.List.Folds.{list_all_more}
 use Rattle.lists.proofs.Truth.{never_true}
 use Rattle.lists.specs.Search.{first_below, or_else, if_holds, is_found}
 use Rattle.lists.proofs.FirstBelow.{any_passes, first_cong}
-use Rattle.marked_rows.specs.declared.Mark.TheVariants.{Pole, Silent}
+use Rattle.marked_rows.specs.declared.Mark.TheVariants.{Silent}
 use Rattle.marked_rows.specs.Marks.{all_are, mark_of}
 
 module _ (allowed : Bool) (n : ℕ) (y : ℕ → ℕ) where
-  pub pole_if : allowed ≡ true → all_are n y 65535 ≡ true → mark_of allowed n y ≡ Some Pole
-  unfolding mark_of
-  pole_if a e = rw (a, e) refl
-
   pub silent_if : allowed ≡ true → all_are n y 65535 ≡ false → all_are n y 65534 ≡ true → mark_of allowed n y ≡ Some Silent
   unfolding mark_of
   silent_if a other e = rw (a, other, e) refl

@@ -48,6 +48,7 @@ fn all_are(values: [u32; 4], outputs: usize, m: u32) -> bool
 }
 
 // What a row is marked with, where marks are allowed; nothing where its values are numbers.
+#[tactic(auto, unfolding(crate::specs::Marks::mark_of))]
 fn mark_of(row: Row, outputs: usize, marks: bool) -> Option<Mark>
     requires { outputs ≤ 4 }
     ensures { result ≡ mark_of marks outputs (λ i. get_or row.values i 0) }
