@@ -13,7 +13,6 @@ use Rattle.fraction.specs.LowestTerms.{unit_of, reduced_numerator, reduced_denom
 use Rattle.pairs.specs.Pairs.{discrepancy_of, advanced_of, combined_of, step_by, start_of, pairs_after, smaller_of}
 use Rattle.column.specs.Columns.{column_at, column_of}
 use Rattle.candidate.specs.Extensions.{raised_at, raised_below, with_output, extended_of}
-use Rattle.candidate.specs.Vector.{unsolvable_candidate}
 use Rattle.candidate.specs.Candidates.{start_candidate, with_fraction, next_of, candidate_after}
 use Rattle.format.specs.Bounds.{largest_bound, numerator_count}
 use Rattle.cursor.specs.Bits.{field_of}
@@ -30,16 +29,16 @@ use Rattle.answer.specs.Bytes.{coefficient_bytes, output_bytes}
 use Rattle.lists.specs.Overwriting.{overwritten}
 use Rattle.format.specs.declared.Report.{Report}
 use Rattle.recovery.specs.Recovery.{Settled}
-use Rattle.solver.specs.Solutions.{unsolved_solution, word_by, counted_solution, judged_solution}
+use Rattle.solver.specs.Solutions.{word_by, counted_solution}
 use Rattle.recovery.proofs.Laws.{settled_unique}
 use Rattle.examples.specs.Hand.{Example, one_pole, two_poles, table, ExampleHolds, EveryHolds}
 use Rattle.examples.specs.Enlargement.{smaller, larger}
-use Rattle.examples.proofs.Model.{Result, result_of, result_settled}
+use Rattle.examples.proofs.Model.{Computed, result_of, result_settled}
 
-abbrev computed : Example → Result
+abbrev computed : Example → Computed
 computed e = result_of e.job e.room
 
-abbrev expected : Example → Result
+abbrev expected : Example → Computed
 expected e = record { report = e.report; bytes = e.bytes }
 
 -- where the definition gives what is expected at every entry, the claim holds
@@ -56,9 +55,9 @@ abbrev all : List Example
 all = larger ∷ smaller ∷ two_poles ∷ one_pole ∷ table
 
 as_expected : map computed all ≡ map expected all
-unfolding table result_of outcome_of outcome_of_rows largest_bound numerator_count field_of outputs_of df_of spare_bit_of numerator_bounds_of flags_of bounds_of first_below number_at mark_of speaking_count job_points job_weights job_values tabulate judged_solution
-    counted_solution unsolved_solution word_by candidate_after next_of with_fraction extended_of with_output raised_below raised_at column_of column_at
-    start_candidate unsolvable_candidate pairs_after step_by start_of smaller_of combined_of advanced_of discrepancy_of value_of combination_of
+unfolding table result_of outcome_of outcome_of_rows largest_bound numerator_count field_of outputs_of df_of spare_bit_of numerator_bounds_of flags_of bounds_of first_below number_at mark_of speaking_count job_points job_weights job_values tabulate
+    counted_solution word_by candidate_after next_of with_fraction extended_of with_output raised_below raised_at column_of column_at
+    start_candidate pairs_after step_by start_of smaller_of combined_of advanced_of discrepancy_of value_of combination_of
     combination_at times_linear_of times_linear_at scaled_of scaled_at length_of length_below sum_below product_at product_of unit_of reduced_numerator
     reduced_denominator gcd_of gcd_from remainder_of quotient_of leading_reciprocal degree_of quotient_from remainder_from division_step cancel_factor cancelled_of
     cancelled_at shifted reciprocal_of fails_row word_of count_below coefficient_bytes output_bytes

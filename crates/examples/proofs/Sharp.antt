@@ -11,8 +11,8 @@ use Rattle.lists.proofs.Truth.{clash}
 use Rattle.lists.proofs.Maps.{same_maps}
 use Rattle.format.specs.declared.Bounds.{Bounds}
 use Rattle.format.specs.Bounds.{prime_of, numerator_bound_of, largest_bound, numerator_count, FitsPolynomials}
-use Rattle.format.specs.declared.Outcome.{Outcome}
-use Rattle.format.specs.declared.Outcome.TheVariants.{Accepted}
+use Rattle.std.specs.Prelude.{Result, Ok}
+use Rattle.format.specs.declared.Refusal.{Refusal}
 use Rattle.field.proofs.Moduli.{modulus_prime}
 use Rattle.header.specs.Header.{outputs_of, df_of, spare_bit_of, numerator_bounds_of, flags_of, bounds_of}
 use Rattle.header.proofs.Fields.{fits_polynomials}
@@ -83,7 +83,7 @@ same_alike n v w same =
 
 -- what is looked at of an entry
 record Tests : Type 0 where
-  form : Outcome
+  form : Result (Unit {0}) Refusal
   answer : VectorTests
   next : VectorTests
   other : Bool
@@ -104,7 +104,7 @@ tests e =
     }
 
 abbrev expected : Example → Tests
-expected e = record { form = Accepted; answer = passed; next = passed; other = true; few = true; margin = e.margin; exactly = true }
+expected e = record { form = Ok tt; answer = passed; next = passed; other = true; few = true; margin = e.margin; exactly = true }
 
 attained : (e : Example) → tests e ≡ expected e → Attained e
 attained e h =

@@ -1,7 +1,6 @@
 -- Paper 02, item 7: no more can be said of all jobs. Jobs modulo 7 of which another reduced vector leaves exactly S − df − dg − W rows wrong, as one
 -- table with one claim over it. Outputs, rows and coefficients are counted from 0 here.
-use Rattle.std.specs.Prelude.{◌≡◌, List, [], ◌∷◌, ℕ, zero, suc, ◌+◌}
-use Rattle.format.specs.declared.Outcome.TheVariants.{Accepted}
+use Rattle.std.specs.Prelude.{◌≡◌, List, [], ◌∷◌, ℕ, zero, suc, ◌+◌, Ok}
 use Rattle.header.specs.Header.{df_of, bounds_of}
 use Rattle.marked_rows.specs.Marks.{speaking_count}
 use Rattle.job.specs.Form.{form_outcome_of}
@@ -69,7 +68,7 @@ table =
 
 -- the bound is attained
 pub record Attained (e : Example) : Type 0 where
-  pub accepted : form_outcome_of e.job ≡ Accepted
+  pub accepted : form_outcome_of e.job ≡ Ok tt
   pub answered : Answer e.job (numerator_of e.answer.f) e.answer.g
   pub margin : margin_of e.job (wrong_for e e.answer) ≡ e.margin
   pub other : Other e.job (numerator_of e.answer.f) e.answer.g (numerator_of e.next.f) e.next.g
