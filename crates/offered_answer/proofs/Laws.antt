@@ -1,16 +1,18 @@
 -- What is said of an offered answer is determined.
-use mathlib.Core.Path.{◌≡◌, sym, ap, ap₂, ◌∙◌}
+use mathlib.Core.Bool.{Bool, true, false}
+use mathlib.Core.Path.{◌≡◌, refl, sym, ap, ap₂, ◌∙◌}
 use mathlib.Core.Logic.{◌⊎◌, inl, inr}
 use mathlib.Core.List.{List}
 use Prim.Native.Nat.{ℕ, ◌≤◌, ◌<◌}
 use native.Mathlib.Omega.{arith}
+use Rattle.std.specs.Prelude.{Result, Ok, Err}
+use Rattle.format.specs.declared.Refusal.{Refusal}
 use Rattle.format.specs.Bounds.{answer_length_of}
+use Rattle.format.specs.Outcomes.{refused}
 use Rattle.format.proofs.Numbers.{number_injective, number_positive}
 use Rattle.header.specs.Header.{bounds_of}
 use Rattle.job.specs.Refusals.{outcome_of}
 use Rattle.job.proofs.Numbers.{EarlyBelow, form_early}
-use Rattle.offered_answer.specs.declared.Judgement.{Judgement}
-use Rattle.offered_answer.specs.declared.Judgement.TheVariants.{Yes, No, Refused}
 use Rattle.offered_answer.specs.declared.JudgementReport.{JudgementReport}
 use Rattle.offered_answer.specs.Judgements.{judgement_report_of, JobRefused, LengthRefused, Affirmed, Denied, Judged}
 use Rattle.offered_answer.proofs.Settling.{right-length}
@@ -53,14 +55,14 @@ module _ (s a : List ℕ) {r : JudgementReport} where
       by (inr (inr (inl y))) o = low (ap (λ t. t.refusal) y.report) (omega arith) (λ two. omega arith)
       by (inr (inr (inr n))) o = low (ap (λ t. t.refusal) n.report) (omega arith) (λ two. omega arith)
 
--- so is the enum: its numbers tell its cases apart
-pub judgement_unique : (j j' : Judgement) → judgement_report_of j ≡ judgement_report_of j' → j ≡ j'
-judgement_unique Yes Yes e = cc
-judgement_unique Yes No e = absurd (let y = ap (λ t. t.yes) e in omega arith)
-judgement_unique Yes (Refused q k) e = absurd (let y = ap (λ t. t.yes) e in omega arith)
-judgement_unique No Yes e = absurd (let y = ap (λ t. t.yes) e in omega arith)
-judgement_unique No No e = cc
-judgement_unique No (Refused q k) e = absurd (let z = ap (λ t. t.refusal) e in omega (arith, number_positive q))
-judgement_unique (Refused q k) Yes e = absurd (let y = ap (λ t. t.yes) e in omega arith)
-judgement_unique (Refused q k) No e = absurd (let z = ap (λ t. t.refusal) e in omega (arith, number_positive q))
-judgement_unique (Refused q k) (Refused q' k') e = ap₂ Refused (number_injective q q' (ap (λ t. t.refusal) e)) (ap (λ t. t.row) e)
+-- so is the judgement: its numbers tell its cases apart
+pub judgement_unique : (j j' : Result Bool Refusal) → judgement_report_of j ≡ judgement_report_of j' → j ≡ j'
+judgement_unique (Ok true) (Ok true) e = refl
+judgement_unique (Ok true) (Ok false) e = absurd (let y = ap (λ t. t.yes) e in omega arith)
+judgement_unique (Ok true) (Err q) e = absurd (let y = ap (λ t. t.yes) e in omega arith)
+judgement_unique (Ok false) (Ok true) e = absurd (let y = ap (λ t. t.yes) e in omega arith)
+judgement_unique (Ok false) (Ok false) e = refl
+judgement_unique (Ok false) (Err q) e = absurd (let z = ap (λ t. t.refusal) e in omega (arith, number_positive q.reason))
+judgement_unique (Err q) (Ok true) e = absurd (let y = ap (λ t. t.yes) e in omega arith)
+judgement_unique (Err q) (Ok false) e = absurd (let z = ap (λ t. t.refusal) e in omega (arith, number_positive q.reason))
+judgement_unique (Err q) (Err q') e = ap₂ refused (number_injective q.reason q'.reason (ap (λ t. t.refusal) e)) (ap (λ t. t.row) e)

@@ -1,14 +1,16 @@
 -- From the tests to what is said.
 use mathlib.Core.Path.{◌≡◌, refl, sym, ap, subst, ◌∙◌}
 use mathlib.Core.Logic.{◌⊎◌, inl, inr, ◌↔◌}
+use mathlib.Core.Bool.{Bool, true, false}
 use mathlib.Core.List.{List}
 use Prim.Native.Nat.{ℕ}
 use native.Mathlib.Nat.{le_refl}
 use native.Mathlib.Omega.{arith}
 use lib.ListN.{length}
-use Rattle.format.specs.declared.Reason.{Reason}
-use Rattle.format.specs.declared.Outcome.TheVariants.{Accepted, Refused}
-use Rattle.format.specs.Outcomes.{refusal_number, report_of}
+use Rattle.std.specs.Prelude.{Ok, Err}
+use Rattle.lists.proofs.Truth.{clash}
+use Rattle.format.specs.declared.Refusal.{Refusal}
+use Rattle.format.specs.Outcomes.{refusal_number, check_report_of}
 use Rattle.format.specs.Bounds.{answer_length_of}
 use Rattle.header.specs.Header.{bounds_of}
 use Rattle.job.specs.Refusals.{outcome_of}
@@ -17,7 +19,7 @@ use Rattle.job.proofs.Forms.{form-same}
 use Rattle.answer.proofs.Lengths.{length_answer}
 use Rattle.problem.specs.Answers.{word_for}
 use Rattle.offered_answer.specs.declared.JudgementReport.{JudgementReport}
-use Rattle.offered_answer.specs.Judgements.{yes_report, no_report, unjudged_report, report_with_room, InForm, OfAnswer, JobRefused, LengthRefused, Affirmed, Denied, Judged}
+use Rattle.offered_answer.specs.Judgements.{yes_report, no_report, unjudged_report, judgement_report_of, report_with_room, InForm, OfAnswer, JobRefused, LengthRefused, Affirmed, Denied, Judged}
 
 -- an answer's bytes have the right length
 pub right-length : (s a : List ℕ) → OfAnswer s a → length a ≡ answer_length_of (bounds_of s)
@@ -49,14 +51,19 @@ module _ (s a : List ℕ) where
     pub settle_no : length a ≡ answer_length_of (bounds_of s) → (OfAnswer s a → ⊥) → Judged s a no_report
     settle_no size wrong = judged (inr (inr (inr (record { in_form = in_form; right-length = size; wrong = wrong; report = refl }))))
 
+    -- by a test that is passed exactly by the right bytes
+    pub settle_tested : {x : Bool} → length a ≡ answer_length_of (bounds_of s) → (x ≡ true) ↔ OfAnswer s a → Judged s a (judgement_report_of (Ok x))
+    settle_tested {x = true} size decided = settle_yes (decided.0 refl)
+    settle_tested {x = false} size decided = settle_no size (λ right. clash (sym (decided.1 right)))
+
   -- the tests before 7 as the code runs them, with an area of 254 bytes
   form : outcome_of s 254 ≡ outcome_of s (answer_length_of (bounds_of s))
   form = form-same s 254 (le_refl 254)
 
-  pub in_form_if_read : outcome_of s 254 ≡ Accepted → InForm s
+  pub in_form_if_read : outcome_of s 254 ≡ Ok tt → InForm s
   in_form_if_read accepted = sym form ∙ accepted
 
-  pub settle_refused : {reason : Reason} {row : ℕ} → outcome_of s 254 ≡ Refused reason row → Judged s a (unjudged_report (refusal_number reason) row)
-  settle_refused e =
-      subst (λ o. Judged s a (unjudged_report (report_of o).refusal (report_of o).row)) (sym form ∙ e)
-      (settle_malformed (λ wf. refused_not_accepted (sym e ∙ form ∙ wf)))
+  pub settle_refused : {e : Refusal} → outcome_of s 254 ≡ Err e → Judged s a (unjudged_report (refusal_number e.reason) e.row)
+  settle_refused same =
+      subst (λ o. Judged s a (unjudged_report (check_report_of o).refusal (check_report_of o).row)) (sym form ∙ same)
+      (settle_malformed (λ wf. refused_not_accepted (sym same ∙ form ∙ wf)))

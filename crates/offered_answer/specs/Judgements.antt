@@ -1,13 +1,12 @@
 -- Paper 02, item 3: what is said of an answer that somebody offers for a job, from the job's bytes s and the offered bytes a.
-use Rattle.std.specs.Prelude.{◌≡◌, ◌⊎◌, ◌↔◌, List, ℕ, length}
+use Rattle.std.specs.Prelude.{◌≡◌, ◌⊎◌, ◌↔◌, Bool, true, false, List, ℕ, length, Result, Ok, Err}
+use Rattle.format.specs.declared.Refusal.{Refusal}
 use Rattle.format.specs.declared.Report.{Report}
-use Rattle.format.specs.Outcomes.{refusal_number, report_of}
+use Rattle.format.specs.Outcomes.{refusal_number, check_report_of}
 use Rattle.format.specs.Bounds.{answer_length_of}
 use Rattle.header.specs.Header.{bounds_of}
 use Rattle.job.specs.Refusals.{outcome_of, WellFormed}
 use Rattle.problem.specs.Answers.{Answer, recovered_bytes}
-use Rattle.offered_answer.specs.declared.Judgement.{Judgement}
-use Rattle.offered_answer.specs.declared.Judgement.TheVariants.{Yes, No, Refused}
 use Rattle.offered_answer.specs.declared.JudgementReport.{JudgementReport}
 
 -- a judgement in the papers' numbers: 1 is yes, and "A refusal carries its number and the row it speaks of"
@@ -20,15 +19,16 @@ no_report = record { refusal = 0; row = 0; yes = 0 }
 abbrev pub unjudged_report : (number row : ℕ) → JudgementReport
 unjudged_report number row = record { refusal = number; row = row; yes = 0 }
 
-abbrev pub judgement_report_of : Judgement → JudgementReport
-judgement_report_of Yes = yes_report
-judgement_report_of No = no_report
-judgement_report_of (Refused reason row) = unjudged_report (refusal_number reason) row
+-- yes, no, or a refusal
+abbrev pub judgement_report_of : Result Bool Refusal → JudgementReport
+judgement_report_of (Ok true) = yes_report
+judgement_report_of (Ok false) = no_report
+judgement_report_of (Err e) = unjudged_report (refusal_number e.reason) e.row
 
 -- "1 to 6 as for the job", with 11 in the place of 2 since item 5 and 12 between 5 and 6 since item 6: what its tests say with an area just as long as its
 -- answer, which 7 does not refuse
 abbrev pub report_with_room : List ℕ → Report
-report_with_room s = report_of (outcome_of s (answer_length_of (bounds_of s)))
+report_with_room s = check_report_of (outcome_of s (answer_length_of (bounds_of s)))
 
 -- none of these tests refuses the job
 abbrev pub InForm : List ℕ → Type 0

@@ -1,7 +1,7 @@
 -- What the tests before 10 say where none of them applies, and that they either refuse or leave the word to the later ones.
 use mathlib.Core.Bool.{false}
 use mathlib.Core.List.{List}
-use mathlib.Core.Logic.{◌⊎◌, inl, inr}
+use mathlib.Core.Logic.{inl, inr}
 use mathlib.Core.Path.{◌≡◌, refl, sym, ◌∙◌}
 use Prim.Native.Nat.{ℕ, ◌*◌, ◌/◌, ◌<◌, ◌≤◌}
 use borrow.Author.Tests.{eqb-true, ltb-false, not-false}
@@ -10,8 +10,8 @@ use Rattle.format.specs.Bounds.{prime_of}
 use Rattle.format.specs.Numbers.{number_from}
 use Rattle.format.specs.declared.Reason.{Reason}
 use Rattle.format.specs.declared.Reason.TheVariants.{TooShort, AddedHeader, ByteCount, TooFewRows, OutOfRange, TooManyRows}
-use Rattle.format.specs.declared.Outcome.{Outcome}
-use Rattle.format.specs.declared.Outcome.TheVariants.{Accepted, Refused}
+use Rattle.std.specs.Prelude.{Result, Ok, Err}
+use Rattle.format.specs.declared.Refusal.{Refusal}
 use Rattle.header.specs.Header.{header_length_of, bounds_of, header_of, rows_needed_of}
 use Rattle.header_rules.specs.Rules.{too_short, added_header_broken}
 use Rattle.lists.proofs.Truth.{or-false}
@@ -33,7 +33,7 @@ pub record TrialFacts (h c : List ℕ) (w : ℕ) : Type 0 where
   pub few_spoiled : w ≤ (bounds_of h).rows
   pub coefficients_in_range : (k : ℕ) → k < length c / 2 → number_from c (2 * k) < prime_of (bounds_of h)
 
-pub trial_facts : (h c : List ℕ) (w : ℕ) → outcome_before10 h c w Accepted ≡ Accepted → TrialFacts h c w
+pub trial_facts : (h c : List ℕ) (w : ℕ) → outcome_before10 h c w (Ok tt) ≡ Ok tt → TrialFacts h c w
 unfolding outcome_before10 lengths_outcome numbers_outcome
 trial_facts h c w accepted =
     let t1 = passed TooShort (if_holds (too_short h) 0) _ accepted in
@@ -69,23 +69,16 @@ module _ (h c : List ℕ) (w : ℕ) where
       (refuse_decisive AnyReason TooManyRows (if_holds (too_many_rows (bounds_of h) w) 0) _ tt
       (refuse_decisive AnyReason OutOfRange (if_holds (any_too_large (bounds_of h) c) 0) (λ later. later) tt (inr (λ later. refl)))))))
 
-  pub accepted_or_refused : (outcome_before10 h c w Accepted ≡ Accepted) ⊎ ((reason : Reason) × (row : ℕ) × (outcome_before10 h c w Accepted ≡ Refused reason row))
-  accepted_or_refused = by before_decisive
+  pub refused_whatever : {q : Refusal} → outcome_before10 h c w (Ok tt) ≡ Err q → (later : Result (Unit {0}) Refusal) → outcome_before10 h c w later ≡ Err q
+  refused_whatever {q} e later = by before_decisive
     where
-      by : Decisive AnyReason (outcome_before10 h c w) → (outcome_before10 h c w Accepted ≡ Accepted) ⊎ ((reason : Reason) × (row : ℕ) × (outcome_before10 h c w Accepted ≡ Refused reason row))
-      by (inl d) = inr (d.0, d.1, d.3 Accepted)
-      by (inr d) = inl (d Accepted)
+      by : Decisive AnyReason (outcome_before10 h c w) → outcome_before10 h c w later ≡ Err q
+      by (inl d) = d.3 later ∙ sym (d.3 (Ok tt)) ∙ e
+      by (inr d) = absurd (refused_not_accepted (sym e ∙ d (Ok tt)))
 
-  pub refused_whatever : {reason : Reason} {row : ℕ} → outcome_before10 h c w Accepted ≡ Refused reason row → (later : Outcome) → outcome_before10 h c w later ≡ Refused reason row
-  refused_whatever {reason} {row} e later = by before_decisive
-    where
-      by : Decisive AnyReason (outcome_before10 h c w) → outcome_before10 h c w later ≡ Refused reason row
-      by (inl d) = d.3 later ∙ sym (d.3 Accepted) ∙ e
-      by (inr d) = absurd (refused_not_accepted (sym e ∙ d Accepted))
-
-  pub accepted_later : outcome_before10 h c w Accepted ≡ Accepted → (later : Outcome) → outcome_before10 h c w later ≡ later
+  pub accepted_later : outcome_before10 h c w (Ok tt) ≡ Ok tt → (later : Result (Unit {0}) Refusal) → outcome_before10 h c w later ≡ later
   accepted_later e later = by before_decisive
     where
       by : Decisive AnyReason (outcome_before10 h c w) → outcome_before10 h c w later ≡ later
-      by (inl d) = absurd (refused_not_accepted (sym (d.3 Accepted) ∙ e))
+      by (inl d) = absurd (refused_not_accepted (sym (d.3 (Ok tt)) ∙ e))
       by (inr d) = d later

@@ -1,4 +1,3 @@
-mod Deciding
 pub mod Facts
 mod Writing
 pub mod Settling

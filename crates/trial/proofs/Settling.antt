@@ -9,11 +9,10 @@ use lib.ListN.{length}
 use Rattle.lists.proofs.Truth.{clash}
 use Rattle.format.specs.declared.Bounds.{Bounds}
 use Rattle.format.specs.Bounds.{prime_of}
-use Rattle.format.specs.declared.Reason.{Reason}
 use Rattle.format.specs.declared.Reason.TheVariants.{AreaTooShort}
-use Rattle.format.specs.declared.Outcome.{Outcome}
-use Rattle.format.specs.declared.Outcome.TheVariants.{Accepted, Refused}
-use Rattle.format.specs.Outcomes.{refusal_number, refused_writing, written_report}
+use Rattle.std.specs.Prelude.{Result, Ok, Err}
+use Rattle.format.specs.declared.Refusal.{Refusal}
+use Rattle.format.specs.Outcomes.{refused, refused_writing, written_report, writing_report_of}
 use Rattle.header.specs.Header.{bounds_of, header_of, job_length_of}
 use Rattle.job.proofs.Facts.{refused_not_accepted}
 use Rattle.answer.specs.Bytes.{coefficient_bytes}
@@ -35,11 +34,11 @@ job_of h c start w {f = f} eb ef eg =
     (numbers_cong (prime_of (bounds_of h)) f (numerator_of (bounds_of h) c) (denominator_of (bounds_of h) c) _ (bounds_of h).rows (bounds_of h).outputs ef))
 
 module _ (h c : List ℕ) (start w : ℕ) (area : List ℕ) where
-  abbrev outcome : Bool → Outcome
+  abbrev outcome : Bool → Result (Unit {0}) Refusal
   outcome = trial_outcome h c w (length area)
 
   -- from the outcome
-  settle : (reduced : Bool) → (outcome_before10 h c w Accepted ≡ Accepted → (reduced ≡ true) ↔ TrialReduced h c) → {o : Outcome} → outcome reduced ≡ o
+  settle : (reduced : Bool) → (outcome_before10 h c w (Ok tt) ≡ Ok tt → (reduced ≡ true) ↔ TrialReduced h c) → {o : Result (Unit {0}) Refusal} → outcome reduced ≡ o
       → {after : List ℕ} → after ≡ trial_area o (trial_job h c start w) area → Trial h c start w area (trial_report o (job_length_of (header_of h))) after
   settle reduced decided e written = record {
     reduced = reduced;
@@ -49,25 +48,25 @@ module _ (h c : List ℕ) (start w : ℕ) (area : List ℕ) where
   }
 
   -- a test before 10 refuses
-  pub settle_early : (reason : Reason) (row : ℕ) → outcome_before10 h c w Accepted ≡ Refused reason row → Trial h c start w area (refused_writing (refusal_number reason) row) area
+  pub settle_early : (q : Refusal) → outcome_before10 h c w (Ok tt) ≡ Err q → Trial h c start w area (writing_report_of (Err q)) area
   unfolding trial_outcome
-  settle_early reason row e = settle true (λ accepted. absurd (refused_not_accepted (sym e ∙ accepted))) (refused_whatever h c w e _) refl
+  settle_early q e = settle true (λ accepted. absurd (refused_not_accepted (sym e ∙ accepted))) (refused_whatever h c w e _) refl
 
   -- the tests before 10 let the polynomials pass
-  module _ (passes : outcome_before10 h c w Accepted ≡ Accepted) where
+  module _ (passes : outcome_before10 h c w (Ok tt) ≡ Ok tt) where
     pub settle_not_reduced : (TrialReduced h c → ⊥) → Trial h c start w area (refused_writing 10 0) area
     unfolding trial_outcome
     settle_not_reduced never = settle false (λ accepted. (λ e. clash (sym e), λ R. absurd (never R))) (accepted_later h c w passes _) refl
 
     module _ (R : TrialReduced h c) where
-      is_reduced_lem : outcome_before10 h c w Accepted ≡ Accepted → (true ≡ true) ↔ TrialReduced h c
+      is_reduced_lem : outcome_before10 h c w (Ok tt) ≡ Ok tt → (true ≡ true) ↔ TrialReduced h c
       is_reduced_lem accepted = (λ e. R, λ r. refl)
 
       pub settle_short : length area < job_length_of (header_of h) → Trial h c start w area (refused_writing 7 0) area
       unfolding trial_outcome
-      settle_short l = settle true is_reduced_lem {o = Refused AreaTooShort 0} (accepted_later h c w passes _ ∙ rw (lt-ltb _ _ l) refl) refl
+      settle_short l = settle true is_reduced_lem {o = refused AreaTooShort 0} (accepted_later h c w passes _ ∙ rw (lt-ltb _ _ l) refl) refl
 
       pub settle_written : job_length_of (header_of h) ≤ length area → {after : List ℕ} → after ≡ overwritten (trial_job h c start w) area
           → Trial h c start w area (written_report (job_length_of (header_of h))) after
       unfolding trial_outcome
-      settle_written l written = settle true is_reduced_lem {o = Accepted} (accepted_later h c w passes _ ∙ rw (le-ltb _ _ l) refl) written
+      settle_written l written = settle true is_reduced_lem {o = Ok tt} (accepted_later h c w passes _ ∙ rw (le-ltb _ _ l) refl) written

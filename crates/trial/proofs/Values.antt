@@ -9,12 +9,11 @@ use borrow.Author.Tests.{eq-eqb, eqb-true, eqb-false}
 use lib.Dec.{eqb}
 use Rattle.field.proofs.Primality.{IsPrime}
 use Rattle.field.proofs.Remainders.{mod-mul, mul-mod, times_unit}
-use Rattle.reciprocal.specs.declared.OptionalReciprocal.TheVariants.{Number}
+use Rattle.std.specs.Prelude.{Some}
 use Rattle.reciprocal.specs.Reciprocals.{reciprocal_of}
 use Rattle.reciprocal.proofs.Reciprocals.{reciprocal_inverts, nonzero_has_one}
 use Rattle.poly.specs.Operations.{value_of}
 use Rattle.poly.proofs.Values.{value_below}
-use Rattle.lists.specs.declared.Found.TheVariants.{At}
 use Rattle.lists.specs.Search.{first_below}
 use Rattle.lists.proofs.FirstBelow.{found_only}
 use Rattle.spoiling.specs.Spoiling.{number_in}
@@ -22,19 +21,19 @@ use Rattle.trial.specs.Rows.{pole_at, right_value, value_before}
 
 -- d is not 0 modulo p, so it has a reciprocal r
 module _ {p : ℕ} (P : IsPrime p) (v d : ℕ) (small : v < p) (low : d < p) (positive : 0 < d) where
-  reciprocal : (r : ℕ) × (Number r ≡ reciprocal_of p d)
+  reciprocal : (r : ℕ) × (Some r ≡ reciprocal_of p d)
   reciprocal = nonzero_has_one p P d (rw (mod-eq_of_lt low) positive)
 
   -- x times the reciprocal of d times d is x
-  restores : {r : ℕ} → Number r ≡ reciprocal_of p d → (x : ℕ) → x < p → x * (r * d) % p ≡ x
+  restores : {r : ℕ} → Some r ≡ reciprocal_of p d → (x : ℕ) → x < p → x * (r * d) % p ≡ x
   restores {r} u x l = times_unit p x (r * d) l (reciprocal_inverts p d r u)
 
-  right : {r : ℕ} → Number r ≡ reciprocal_of p d → d * (v * r % p) % p ≡ v
+  right : {r : ℕ} → Some r ≡ reciprocal_of p d → d * (v * r % p) % p ≡ v
   right {r} u =
       let order : d * (v * r) ≡ v * (r * d) = omega arith in
       mul-mod d (v * r) p ∙ ap (λ t. t % p) order ∙ restores u v small
 
-  only : {r : ℕ} → Number r ≡ reciprocal_of p d → (z : ℕ) → z < p → v ≡ d * z % p → z ≡ v * r % p
+  only : {r : ℕ} → Some r ≡ reciprocal_of p d → (z : ℕ) → z < p → v ≡ d * z % p → z ≡ v * r % p
   only {r} u z l e =
       let order : d * z * r ≡ z * (r * d) = omega arith in
       sym (ap (λ t. t * r % p) e ∙ mod-mul (d * z) r p ∙ ap (λ t. t % p) order ∙ restores u z l)
@@ -43,7 +42,7 @@ module _ {p : ℕ} (P : IsPrime p) (v d : ℕ) (small : v < p) (low : d < p) (po
   quotient_only y z l m ey ez = only reciprocal.1 y l ey ∙ sym (only reciprocal.1 z m ez)
 
   -- the number below p whose product with d leaves v is v times the reciprocal
-  pub quotient_found : {r : ℕ} → Number r ≡ reciprocal_of p d → first_below p (λ y. eqb v (d * y % p)) ≡ At (v * r % p)
+  pub quotient_found : {r : ℕ} → Some r ≡ reciprocal_of p d → first_below p (λ y. eqb v (d * y % p)) ≡ Some (v * r % p)
   quotient_found {r} u = found_only _ p (v * r % p) (mod-lt _ (omega arith)) (eq-eqb _ _ (sym (right u))) (λ z l t. only u z l (eqb-true _ _ t))
 
   pub quotient-right : v ≡ d * number_in (first_below p (λ y. eqb v (d * y % p))) % p

@@ -14,7 +14,7 @@ ghost use Rattle.trial.specs.Rows.{trial_number, trial_numbers};
 
 use field::Prime;
 use format::Bounds;
-use poly::Poly;
+use poly::{Poly, Vector};
 
 // The value of a at x.
 fn value_at(q: Prime, x: usize, a: Poly) -> u32
@@ -40,16 +40,15 @@ fn quotient(q: Prime, numerator: u32, denominator: u32) -> u32
 }
 
 // The number in row r and a column; by holds what is added to the first values.
-fn number_at(q: Prime, g: Poly, f: [Poly; 4], by: &[u32; 32], r: usize, column: usize) -> u32
-    requires { (r < 32) × (column ≤ 4) × Bounded (modulus_of q) 32 g.c × ((i : ℕ) → i < column → Bounded (modulus_of q) 32 (coefficients_at f i))
+fn number_at(q: Prime, v: &Vector, by: &[u32; 32], r: usize, column: usize) -> u32
+    requires { (r < 32) × (column ≤ 4) × Bounded (modulus_of q) 32 v.now.g.c × ((i : ℕ) → i < column → Bounded (modulus_of q) 32 (coefficients_at v.now.f i))
         × (get_or by.now r 0 < modulus_of q) }
-    ensures { result ≡ trial_number (modulus_of q) (coefficients_at f) g.c (λ i. get_or by.now i 0) r column }
+    ensures { result ≡ trial_number (modulus_of q) (coefficients_at v.now.f) v.now.g.c (λ i. get_or by.now i 0) r column }
 {
     if column == 0 {
         return r as u32;
     }
-    let fi = f[column - 1];
-    let y = quotient(q, value_at(q, r, fi), value_at(q, r, g));
+    let y = quotient(q, value_at(q, r, v.f[column - 1]), value_at(q, r, v.g));
     if column == 1 {
         return (y + by[r]) % field::modulus(q);
     }
@@ -57,26 +56,17 @@ fn number_at(q: Prime, g: Poly, f: [Poly; 4], by: &[u32; 32], r: usize, column: 
 }
 
 // Writes the rows behind a header, from the byte called start on, and returns how many bytes they have.
-pub fn put_rows(
-    area: &mut [u8],
-    start: usize,
-    b: Bounds,
-    g: Poly,
-    f: [Poly; 4],
-    by: &[u32; 32],
-) -> usize
-    requires { FitsFields b × (start + 2 * (b.rows * (1 + b.outputs)) ≤ length area.old) × Bounded (prime_of b) 32 g.c
-        × ((i : ℕ) → i < b.outputs → Bounded (prime_of b) 32 (coefficients_at f i)) × ((r : ℕ) → get_or by.now r 0 < prime_of b) }
+pub fn put_rows(area: &mut [u8], start: usize, b: Bounds, v: &Vector, by: &[u32; 32]) -> usize
+    requires { FitsFields b × (start + 2 * (b.rows * (1 + b.outputs)) ≤ length area.old) × Bounded (prime_of b) 32 v.now.g.c
+        × ((i : ℕ) → i < b.outputs → Bounded (prime_of b) 32 (coefficients_at v.now.f i)) × ((r : ℕ) → get_or by.now r 0 < prime_of b) }
     ensures { (result ≡ 2 * (b.rows * (1 + b.outputs)))
-        × (area.new ≡ spliced start (coefficient_bytes (trial_numbers (prime_of b) (coefficients_at f) g.c (λ i. get_or by.now i 0) b.rows b.outputs) (b.rows * (1 + b.outputs))) area.old) }
+        × (area.new ≡ spliced start (coefficient_bytes (trial_numbers (prime_of b) (coefficients_at v.now.f) v.now.g.c (λ i. get_or by.now i 0) b.rows b.outputs) (b.rows * (1 + b.outputs))) area.old) }
 {
-    let prime = b.prime;
     let width = 1 + b.outputs;
     let count = b.rows * width;
-    let mut written = 0;
     for k in 0..count {
-        let number = number_at(prime, g, f, by, k / width, k % width);
-        written += answer::put_number(area, start + written, number);
+        let number = number_at(b.prime, v, by, k / width, k % width);
+        answer::put_number(area, start + 2 * k, number);
     }
-    written
+    2 * count
 }

@@ -1,14 +1,15 @@
 -- The tests one after the other: each that fails refutes, and together they prove.
 use mathlib.Core.Path.{◌≡◌, sym, ap, ◌∙◌}
-use mathlib.Core.Bool.{Bool, false}
+use mathlib.Core.Bool.{false}
 use mathlib.Core.List.{List}
 use Prim.Native.Nat.{ℕ, ◌-◌, ◌<◌}
 use native.Mathlib.Omega.{arith}
 use lib.ListN.{length, take, drop, length-drop, length-take}
 use lib.Seq.{take_all}
-use Rattle.lists.proofs.Truth.{clash, refuted}
+use Rattle.lists.proofs.Truth.{clash}
 use Rattle.format.specs.declared.Bounds.{Bounds}
-use Rattle.format.specs.Bounds.{answer_length_of, FitsPolynomials}
+use Rattle.format.specs.Bounds.{prime_of, answer_length_of, FitsPolynomials}
+use Rattle.poly.specs.Coefficients.{Stored}
 use Rattle.problem.specs.Reduced.{Same}
 use Rattle.problem.specs.Answers.{Within}
 use Rattle.problem.proofs.Same.{same_sym, same_if_equal, within_same, reduced-same}
@@ -25,66 +26,63 @@ behind a = take (length a - 4) (drop 4 a)
 whole : (a : List ℕ) → behind a ≡ drop 4 a
 whole a = take_all (length a - 4) (drop 4 a) (omega (arith, length-drop 4 a))
 
-large : (b : Bounds) (a : List ℕ) {x : Bool} → x ≡ any_too_large b (behind a) → x ≡ any_too_large b (drop 4 a)
-large b a e = e ∙ ap (any_too_large b) (whole a)
-
--- what was read of it: the numerators f and the denominator g
+-- what was read of it: the numerators f and the denominator g, whose coefficients are all below p
 module _ (b : Bounds) (a : List ℕ) {f : ℕ → List ℕ} {g : List ℕ} (eg : g ≡ denominator_of b (behind a))
     (ef : (i : ℕ) → i < b.outputs → f i ≡ numerator_of b (behind a) i) where
   listed : Same b.outputs f g (offered_numerator b a) (offered_denominator b a)
   listed = same_if_equal (λ i l. ef i l ∙ ap (λ t. numerator_of b t i) (whole a)) (eg ∙ ap (denominator_of b) (whole a))
 
-  within : FitsPolynomials b → length a ≡ answer_length_of b → any_too_large b (drop 4 a) ≡ false → Within b f g
-  within fits size below =
-      let behind_size : length (drop 4 a) ≡ coefficient_length_of b = omega (arith, length-drop 4 a) in
-      let low = not_large b (drop 4 a) below in
-      within_same (same_sym listed) (record {
-        numerators = numerator_bounded b fits (drop 4 a) behind_size low;
-        denominator = denominator_bounded b fits (drop 4 a) behind_size low;
-      })
+  module _ (few : any_too_large b (behind a) ≡ false) where
+    below : any_too_large b (drop 4 a) ≡ false
+    below = ap (any_too_large b) (sym (whole a)) ∙ few
 
-pub returns-then-v : goal.returns-then-v
-returns-then-v c =
-    refuted (λ p. clash (sym c.if-v.true ∙ large c.args.b c.args.offered.now c.read_vector-v.ensures.range ∙ p.below))
+    module _ (fits : FitsPolynomials b) (size : length a ≡ answer_length_of b) where
+      within : Within b f g
+      within =
+          let behind_size : length (drop 4 a) ≡ coefficient_length_of b = omega (arith, length-drop 4 a) in
+          let low = not_large b (drop 4 a) below in
+          within_same (same_sym listed) (record {
+            numerators = numerator_bounded b fits (drop 4 a) behind_size low;
+            denominator = denominator_bounded b fits (drop 4 a) behind_size low;
+          })
+
+      stored : Stored (prime_of b) g × ((i : ℕ) → i < b.outputs → Stored (prime_of b) (f i))
+      stored =
+          let behind_size : length (behind a) ≡ coefficient_length_of b = omega (arith, length-drop 4 a, length-take {A = ℕ}) in
+          let low = not_large b (behind a) few in
+          (rw eg (denominator_stored b fits (behind a) behind_size low), λ i l. rw (ef i l) (numerator_stored b fits (behind a) behind_size low i l))
 
 pub rows_agree-requires : goal.rows_agree-requires
 rows_agree-requires c =
-    let b = c.args.b in
-    let a = c.args.offered.now in
-    let v = c.read_vector-v in
-    let below : any_too_large b (drop 4 a) ≡ false = sym (large b a v.ensures.range) ∙ c.if-v.false in
-    (c.requires.0, c.requires.1, within b a v.ensures.denominator v.ensures.numerators c.requires.1 c.requires.2 below)
-
-pub returns-then-not-rows_agree : goal.returns-then-not-rows_agree
-returns-then-not-rows_agree c =
-    let read = c.read_vector-v.ensures in
-    let same = listed c.args.b c.args.offered.now read.denominator read.numerators in
-    let word = c.offered_word-word.ensures in
-    refuted (λ p. clash (sym (c.rows_agree.ensures.1 (rw word (agree_same (same_sym same) p.rows))) ∙ c.if-not-rows_agree.true))
+    let v = c.in-Some.ensures in
+    (c.requires.0, c.requires.1, within c.args.b c.args.offered.now v.denominator v.numerators (sym v.range) c.requires.1 c.requires.2)
 
 pub is_reduced-requires : goal.is_reduced-requires
 is_reduced-requires c =
-    let b = c.args.b in
-    let s = behind c.args.offered.now in
-    let read = c.read_vector-v.ensures in
-    let size : length s ≡ coefficient_length_of b = omega (arith, length-drop 4 c.args.offered.now, length-take {A = ℕ}) in
-    let low = not_large b s (sym read.range ∙ c.if-v.false) in (
-      c.requires.1.few,
-      rw read.denominator (denominator_stored b c.requires.1 s size low),
-      (λ i l. rw (read.numerators i l) (numerator_stored b c.requires.1 s size low i l)),
+    let v = c.in-Some.ensures in
+    let S = stored c.args.b c.args.offered.now v.denominator v.numerators (sym v.range) c.requires.1 c.requires.2 in
+    (omega (arith, c.requires.1.few), S.0, λ i l. S.1 i (omega arith))
+
+pub returns-else-rows_agree : goal.returns-else-rows_agree
+returns-else-rows_agree c =
+    let v = c.in-Some.ensures in
+    let same = listed c.args.b c.args.offered.now v.denominator v.numerators in
+    let agree = rw c.word_from.ensures at c.rows_agree.ensures in (
+      λ t. clash (sym t ∙ c.if-rows_agree.false),
+      λ p. agree.1 (agree_same (same_sym same) p.rows),
     )
 
-pub returns : goal.returns
-returns c =
+pub returns-then-rows_agree : goal.returns-then-rows_agree
+returns-then-rows_agree c =
     let b = c.args.b in
     let a = c.args.offered.now in
-    let read = c.read_vector-v.ensures in
-    let same = listed b a read.denominator read.numerators in
-    let word = c.offered_word-word.ensures in (
+    let v = c.in-Some.ensures in
+    let same = listed b a v.denominator v.numerators in
+    let agree = rw c.word_from.ensures at c.rows_agree.ensures in (
       λ reduced. record {
-        below = sym (large b a read.range) ∙ c.if-v.false;
+        below = below b a v.denominator v.numerators (sym v.range);
         reduced = reduced-same same (c.is_reduced.ensures.0 reduced);
-        rows = agree_same same (rw word at (c.rows_agree.ensures.0 c.if-not-rows_agree.false));
+        rows = agree_same same (agree.0 c.if-rows_agree.true);
       },
       λ p. c.is_reduced.ensures.1 (reduced-same (same_sym same) p.reduced),
     )

@@ -32,11 +32,8 @@ put_rows-requires c =
       omega (arith, c.put_bytes-front.ensures.0, c.put_bytes-front.auto.area, c.requires.2),
       c.requires.3,
       c.requires.4,
-      (λ r. rw (added b g.start g.spoiled c.requires.0 c.requires.1 c.spoilings-additions.ensures r) (added_below (prime_of b) b.rows g.start g.spoiled r prime)),
+      (λ r. rw (added b g.start g.spoiled c.requires.0 c.requires.1 c.spoilings-by.ensures r) (added_below (prime_of b) b.rows g.start g.spoiled r prime)),
     )
-
-pub overflow_add-result : goal.overflow_add-result
-overflow_add-result c = omega (arith, c.put_bytes-front.ensures.0, c.put_rows.ensures.0, c.requires.2)
 
 pub returns : goal.returns
 returns c =
@@ -47,8 +44,8 @@ returns c =
     let count = b.rows * (1 + b.outputs) in
     let second =
     rows.ensures.1
-    ∙ ap₂ (λ at by. spliced at (coefficient_bytes (trial_numbers (prime_of b) (coefficients_at g.v.f) g.v.g.c by b.rows b.outputs) count) header.new.area)
-    header.ensures.0 (fun_ext (added b g.start g.spoiled c.requires.0 c.requires.1 c.spoilings-additions.ensures)) in (
+    ∙ ap₂ (λ at by. spliced at (coefficient_bytes (trial_numbers (prime_of b) (coefficients_at g.v.now.f) g.v.now.g.c by b.rows b.outputs) count) header.new.area)
+    header.ensures.0 (fun_ext (added b g.start g.spoiled c.requires.0 c.requires.1 c.spoilings-by.ensures)) in (
       omega (arith, header.ensures.0, rows.ensures.0),
       behind_header g.header.now _ g.area.now header.new.area rows.new.area (omega (arith, c.requires.2)) header.ensures.1 second,
     )
