@@ -4,86 +4,72 @@
 // The discrepancies c a(x) - z b(x) of both pairs are kept for all rows and changed as the pairs are, so that no polynomial is evaluated.
 #![tactic(auto)]
 
-ghost use Rattle.std.specs.Prelude.{ℕ, ◌+◌, ◌-◌, ◌%◌, ◌≤◌, ◌<◌, ◌≡◌, get_or, length};
+ghost use Rattle.std.specs.Prelude.{ℕ, ◌+◌, ◌-◌, ◌%◌, ◌≤◌, ◌<◌, ◌≡◌, get_or};
 ghost use Rattle.field.specs.Primes.{modulus_of};
 ghost use Rattle.poly.specs.Coefficients.{Stored};
 ghost use Rattle.pairs.specs.Pairs.{PairBounded, Conditions, solution_of};
 ghost use Rattle.evaluation.specs.Values.{forms_of};
 ghost use Rattle.pairs.specs.Held.{pair_of};
-ghost use Rattle.interpolation.specs.Start.{states_at_start, step_row};
+ghost use Rattle.interpolation.specs.Start.{pair_at_start, step_row};
 
-use evaluation::PerRow;
 use field::Prime;
+use lanes::Modulus;
 use montgomery::Factor;
-use pairs::{Pair, PairState, PairStates, RowStep, step};
+use pairs::{Pair, PairArrays, PairState, RowStep, step};
 use poly::Poly;
 
-// The weights: the discrepancies of the pair (1, 0).
-fn copied(weights: &[u16; 32]) -> PerRow
-    requires { (k : ℕ) → get_or weights.now k 0 < 2 }
-    ensures { ((k : ℕ) → k < 32 → get_or result.v k 0 ≡ get_or weights.now k 0) × Stored 2 result.v }
-{
-    let mut r = PerRow { v: [0u16; 32] };
-    for k in 0..32 {
-        let c = weights[k];
-        r.v[k] = c;
-    }
-    r
-}
-
-// - z at each row: the discrepancies of the pair (0, 1).
-fn negations(p: u16, z: &[u32; 32], rows: usize) -> PerRow
+// - z at each row.
+fn negations(p: u16, z: &[u32; 32], rows: usize) -> [u16; 32]
     requires { (rows ≤ 32) × ((k : ℕ) → get_or z.now k 0 < p) }
-    ensures { ((k : ℕ) → k < rows → get_or result.v k 0 ≡ (0 + (p - get_or z.now k 0)) % p) × Stored p result.v }
+    ensures { ((k : ℕ) → k < rows → get_or result k 0 ≡ (0 + (p - get_or z.now k 0)) % p) × Stored p result }
 {
-    let mut r = PerRow { v: [0u16; 32] };
+    let mut r = [0u16; 32];
     for k in 0..rows {
-        r.v[k] = montgomery::difference(p, 0, z[k] as u16);
+        r[k] = montgomery::difference(p, 0, z[k] as u16);
     }
     r
 }
 
-// Two pairs of constants with the numbers `first` and `second`, before the first row.
-fn started(first: usize, second: usize) -> PairStates
-    ensures { result ≡ states_at_start first second }
+// The pair of the constants a and b with the number e, before the first row.
+fn started(a: u16, b: u16, e: usize, d: [u16; 32]) -> PairArrays
+    ensures { result ≡ pair_at_start a b e d }
 {
-    PairStates {
-        first: PairState {
-            e: first,
+    let mut s = PairArrays {
+        state: PairState {
+            e,
             n: 1,
             coefficients: 0,
             discrepancies: 0,
         },
-        second: PairState {
-            e: second,
-            n: 1,
-            coefficients: 0,
-            discrepancies: 0,
-        },
-    }
+        a: [0; 32],
+        b: [0; 32],
+        d,
+    };
+    s.a[0] = a;
+    s.b[0] = b;
+    s
 }
 
-// RowStep k, where v is the reciprocal of the prime modulo 2^16.
-fn row(q: Prime, v: u16, points: &[u32; 32], xs: &[u16; 32], rows: usize, k: usize) -> RowStep
+// Row k.
+fn row(q: Prime, m: &Modulus, points: &[u32; 32], xs: &[u16; 32], rows: usize, k: usize) -> RowStep
     requires { k < 32 }
-    ensures { result ≡ step_row q v points.now xs.now rows k }
+    ensures { result ≡ step_row q m.now points.now xs.now rows k }
 {
     let form = xs[k];
-    let low = montgomery::low(form, v);
     RowStep {
         prime: q,
         index: k,
-        rows: rows,
+        rows,
         point: points[k],
         x: Factor {
-            form: form,
-            low: low,
+            form,
+            low: montgomery::low(form, m.inverse[k]),
         },
     }
 }
 
+// Kept, as in `negations`: a loop by index. It is vector code; an array's `map` moves each entry as an Option, and a job of 4 rows took 1.4 times as long.
 fn widened(a: &[u16; 32]) -> Poly
-    requires { (length a.now ≡ 32) × ((k : ℕ) → get_or a.now k 0 < 65536) }
     ensures { result.c ≡ a.now }
 {
     let mut r = poly::zero();
@@ -93,14 +79,13 @@ fn widened(a: &[u16; 32]) -> Poly
     r
 }
 
-fn paired(a: &[u16; 32], b: &[u16; 32], e: usize) -> Pair
-    requires { (length a.now ≡ 32) × ((k : ℕ) → get_or a.now k 0 < 65536) × (length b.now ≡ 32) × ((k : ℕ) → get_or b.now k 0 < 65536) }
-    ensures { result ≡ pair_of a.now b.now e }
+fn paired(s: &PairArrays) -> Pair
+    ensures { result ≡ pair_of s.now }
 {
     Pair {
-        a: widened(a),
-        b: widened(b),
-        e: e,
+        a: widened(&s.a),
+        b: widened(&s.b),
+        e: s.state.e,
     }
 }
 
@@ -119,32 +104,21 @@ pub fn solution(
     ensures { (result ≡ solution_of (modulus_of q) points.now weights.now z.now bound_a bound_b rows)
         × PairBounded (modulus_of q) (rows + 1) result }
 {
-    let p = field::modulus(q) as u16;
-    let ps = [p; 32];
-    let v = montgomery::inverse(q);
-    let vs = [v; 32];
-    let copy = copied(weights);
-    let mut d0 = copy.v;
-    let negated = negations(p, z, rows);
-    let mut d1 = negated.v;
-    let mut a0 = [0u16; 32];
-    let mut b0 = [0u16; 32];
-    let mut a1 = [0u16; 32];
-    let mut b1 = [0u16; 32];
-    a0[0] = 1;
-    b1[0] = 1;
-    let mut s = started(bound_b, bound_a);
+    let m = Modulus::new(q);
+    let mut first = started(1, 0, bound_b, *weights);
+    let mut second = started(0, 1, bound_a, negations(m.p[0], z, rows));
     for k in 0..rows {
-        let here = row(q, v, points, xs, rows, k);
-        s = step(
-            &ps, &vs, here, xs, s, &mut a0, &mut b0, &mut d0, &mut a1, &mut b1, &mut d1,
+        step(
+            &m,
+            row(q, &m, points, xs, rows, k),
+            xs,
+            &mut first,
+            &mut second,
         );
     }
-    let e0 = s.first.e;
-    let e1 = s.second.e;
-    if e0 <= e1 {
-        paired(&a0, &b0, e0)
+    if first.state.e <= second.state.e {
+        paired(&first)
     } else {
-        paired(&a1, &b1, e1)
+        paired(&second)
     }
 }

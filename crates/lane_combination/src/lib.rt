@@ -8,6 +8,7 @@ use lanes::Modulus;
 use montgomery::{Factor, difference, product};
 
 // d a - c b, in place of a
+#[inline(always)]
 pub fn combine(
     m: &Modulus,
     from: usize,

@@ -8,6 +8,7 @@ use lanes::Modulus;
 use montgomery::{Factor, difference, product};
 
 // (u - x) a, in place of a
+#[inline(always)]
 pub fn times_linear(m: &Modulus, n: usize, x: Factor, a: &mut [u16; 32]) -> usize
     requires { (n ≤ 32) × Residues m.now.p a.old × (x.form < modulus_at m.now.p) }
     ensures { (result ≡ groups_of n)

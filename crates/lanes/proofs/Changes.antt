@@ -9,7 +9,7 @@ use lib.Dec.{leb, ltb}
 use lib.ListN.{get_or, length, set, replicate, get_or-replicate}
 use borrow.Author.Tests.{lt-ltb, le-ltb, le-leb, lt-leb}
 use Rattle.lists.proofs.Tabulated.{length-tabulate, at_tabulate}
-use Rattle.lists.proofs.Filling.{Filled, filled_from, filled_more, filled_all}
+use Rattle.lists.proofs.Filling.{Filled, filled_more, filled_all}
 use Rattle.montgomery.specs.Reduction.{reduced_of}
 use Rattle.montgomery.specs.declared.Factor.{Factor}
 use Rattle.lanes.specs.Lanes.{modulus_at, Moduli, Residues, replaced, less_by, combined_lane, linear_lane, difference_lane, horner_lane}
@@ -52,10 +52,6 @@ pub record Changing (ps : List ℕ) (start end : ℕ) (f : ℕ → ℕ) (old : L
   pub begun : start ≤ k
   pub within : k ≤ end
   pub filled : Filled 32 (replaced_at start end f old) (λ k. get_or old k 0) k a
-
-pub changing_start : {ps : List ℕ} {start end : ℕ} {f : ℕ → ℕ} {a : List ℕ} → Moduli ps → Residues ps a → end ≤ 32 → start ≤ end → Changing ps start end f a start a
-changing_start {ps} {start} {end} {f} {a} m r few l =
-    record { moduli = m; residues = r; few = few; begun = omega arith; within = l; filled = filled_from 32 _ start a r.size (at_before start end f a) }
 
 -- an array of 32 equal numbers
 pub splat : (x k : ℕ) → k < 32 → get_or (replicate 32 x) k 0 ≡ x

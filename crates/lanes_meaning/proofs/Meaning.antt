@@ -5,13 +5,13 @@ use Prim.Native.Nat.{ℕ, ◌+◌, ◌-◌, ◌*◌, ◌/◌, ◌%◌, ◌≤◌
 use native.Mathlib.Nat.{div-add-mod', mod-lt, mod-add-mod}
 use native.Mathlib.Decide.{dec_lt}
 use native.Mathlib.Omega.{arith}
-use lib.ListN.{get_or, replicate}
+use lib.ListN.{get_or}
 use Rattle.field.specs.declared.Prime.{Prime}
 use Rattle.field.specs.Primes.{modulus_of}
 use Rattle.field.proofs.Moduli.{modulus_positive}
 use Rattle.field.proofs.Remainders.{same_remainder}
 use Rattle.montgomery.specs.declared.Factor.{Factor}
-use Rattle.montgomery.specs.Factors.{inverse_of, montgomery_form, factor_of}
+use Rattle.montgomery.specs.Factors.{montgomery_form, factor_of}
 use Rattle.montgomery.specs.Reduction.{reduced_of}
 use Rattle.lanes_meaning.proofs.Products.{factor_product, form-difference}
 use Rattle.lists.specs.Tabulated.{tabulate}
@@ -19,13 +19,7 @@ use Rattle.poly.specs.Coefficients.{Stored}
 use Rattle.poly.specs.Operations.{combination_at, times_linear_at}
 use Rattle.lists.proofs.Tabulated.{is_tabulate, at_past}
 use Rattle.lanes.specs.Lanes.{groups_of, modulus_at, Constants, Inverses, replaced, combined_lane, linear_lane, difference_lane, horner_lane}
-use Rattle.lanes.proofs.Changes.{splat, replaced_inside, replaced_before, replaced_behind, length-replaced}
-
-pub constants_are : (q : Prime) (p : ℕ) → p ≡ modulus_of q → Constants q (replicate 32 p)
-constants_are q p e = record { moduli = record { each = λ k l. splat p k l }; number = e }
-
-pub inverses_are : (q : Prime) (v : ℕ) → v ≡ inverse_of q → Inverses q (replicate 32 v)
-inverses_are q v e = record { each = λ k l. splat v k l ∙ e }
+use Rattle.lanes.proofs.Changes.{replaced_inside, replaced_before, replaced_behind, length-replaced}
 
 -- an array stays one of residues where what replaces its entries is below the modulus
 pub stored_replaced : {p : ℕ} {a : List ℕ} (start end : ℕ) (f : ℕ → ℕ) → Stored p a → ((k : ℕ) → k < 32 → f k < p) → Stored p (replaced start end f a)

@@ -2,12 +2,11 @@
 use mathlib.Core.Path.{◌≡◌, ap, ap₂, ◌∙◌}
 use mathlib.Core.List.{List}
 use Prim.Native.Nat.{ℕ, ◌+◌, ◌-◌, ◌*◌, ◌/◌, ◌%◌, ◌≤◌, ◌<◌}
-use native.Mathlib.Nat.{mod-lt}
 use native.Mathlib.Omega.{arith}
 use lib.ListN.{get_or, length}
 use Rattle.field.specs.declared.Prime.{Prime}
 use Rattle.field.specs.Primes.{modulus_of}
-use Rattle.field.proofs.Moduli.{modulus_positive, modulus_small}
+use Rattle.field.proofs.Moduli.{modulus_positive}
 use Rattle.montgomery.specs.declared.Factor.{Factor}
 use Rattle.montgomery.specs.Factors.{montgomery_form, factor_of}
 use Rattle.poly.specs.Coefficients.{Stored}
@@ -16,32 +15,25 @@ use Rattle.poly.proofs.Bounds.{times_linear_past, bounded_times_linear, combinat
 use Rattle.lists.proofs.Tabulated.{length-tabulate}
 use Rattle.poly.proofs.Lists.{bounded_mono}
 use Rattle.pairs.specs.Pairs.{PairBounded}
-use Rattle.lanes.specs.Lanes.{groups_of, modulus_at, Moduli, Constants, Inverses, Residues, replaced, combined_lane, linear_lane, difference_lane}
+use Rattle.lanes.specs.Lanes.{groups_of, Constants, Inverses, Residues, replaced, combined_lane, linear_lane, difference_lane}
 use Rattle.lanes.proofs.Changes.{replaced_inside}
 use Rattle.lanes_meaning.proofs.Meaning.{whole, stored_replaced, combined_lane_lem, linear_lane_lem, combined_below, difference_lane_lem, difference_below}
 use Rattle.pairs.specs.declared.stepping.PairState.{PairState}
+use Rattle.pairs.specs.declared.stepping.PairArrays.{PairArrays}
 use Rattle.pairs.specs.Held.{Holds, PairHeld, pair_of}
 
-holds_mono : {p n m : ℕ} {a : List ℕ} → Holds p n a → n ≤ m → Holds p m a
+pub holds_mono : {p n m : ℕ} {a : List ℕ} → Holds p n a → n ≤ m → Holds p m a
 holds_mono h l = record { bounded = bounded_mono h.bounded l; size = h.size }
 
-pub held_mono : {p n m : ℕ} {a b : List ℕ} → PairHeld p n a b → n ≤ m → PairHeld p m a b
+pub held_mono : {p n m : ℕ} {s : PairArrays} → PairHeld p n s → n ≤ m → PairHeld p m s
 held_mono h l = record { left = holds_mono h.left l; right = holds_mono h.right l }
 
 pub side_is : (e n : ℕ) {x y u v : ℕ} → x ≡ u → y ≡ v
     → ◌≡◌ {A = PairState} (record { e = e; n = n; coefficients = x; discrepancies = y }) (record { e = e; n = n; coefficients = u; discrepancies = v })
 side_is e n ex ey = ap₂ (λ (x y : ℕ). record { e = e; n = n; coefficients = x; discrepancies = y }) ex ey
 
--- 32 coefficients of 16 bits in each polynomial
-pub narrow_held : (q : Prime) {n : ℕ} {a b : List ℕ} → PairHeld (modulus_of q) n a b
-    → (length a ≡ 32) × ((k : ℕ) → get_or a k 0 < 65536) × (length b ≡ 32) × ((k : ℕ) → get_or b k 0 < 65536)
-narrow_held q h = (h.left.size, narrow h.left, h.right.size, narrow h.right)
-  where
-    narrow : {n : ℕ} {a : List ℕ} → Holds (modulus_of q) n a → (k : ℕ) → get_or a k 0 < 65536
-    narrow h k = let l = h.bounded.residues k in let s = modulus_small q in omega arith
-
-pub bounded_held : {p n : ℕ} {a b : List ℕ} (e : ℕ) → PairHeld p n a b → PairBounded p n (pair_of a b e)
-bounded_held e h = record { left = h.left.bounded; right = h.right.bounded }
+pub bounded_held : {p n : ℕ} {s : PairArrays} → PairHeld p n s → PairBounded p n (pair_of s)
+bounded_held h = record { left = h.left.bounded; right = h.right.bounded }
 
 module _ {q : Prime} {ps : List ℕ} (cs : Constants q ps) where
   -- the same bound, by the prime and by the array
@@ -50,17 +42,6 @@ module _ {q : Prime} {ps : List ℕ} (cs : Constants q ps) where
 
   stored_of : {a : List ℕ} → Residues ps a → Stored (modulus_of q) a
   stored_of h = record { size = h.size; below = λ k. rw cs.number at (h.below k) }
-
-  pub residues_held : {n : ℕ} {a : List ℕ} → Holds (modulus_of q) n a → Residues ps a
-  residues_held h = residues_of (record { size = h.size; below = h.bounded.residues })
-
-  pub form_below : (e : ℕ) {x : Factor} → x ≡ factor_of q e → x.form < modulus_at ps
-  form_below e {x} h = rw (ap (λ (f : Factor). f.form) h, cs.number) (mod-lt (e * 65536) (modulus_positive q))
-
-  -- what is asked for, to combine two arrays
-  pub combining : (start n x y : ℕ) {a b : List ℕ} {m c : Factor} → start ≤ n → n ≤ 32 → Residues ps a → Residues ps b → m ≡ factor_of q x → c ≡ factor_of q y
-      → (start ≤ n) × (n ≤ 32) × Moduli ps × Residues ps a × Residues ps b × (m.form < modulus_at ps) × (c.form < modulus_at ps)
-  combining start n x y low few ra rb em ec = (low, few, cs.moduli, ra, rb, form_below x em, form_below y ec)
 
   module _ {n : ℕ} {a : List ℕ} (ha : Holds (modulus_of q) n a) where
     -- (u - x) a

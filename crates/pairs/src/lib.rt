@@ -4,7 +4,7 @@
 pub mod stepping;
 
 use poly::Poly;
-pub use stepping::{Leader, PairState, PairStates, RowStep, step};
+pub use stepping::{Leader, PairArrays, PairState, RowStep, step};
 
 // A pair (a, b), and the number e by which the two pairs are compared.
 #[derive(Clone, Copy)]

@@ -2,14 +2,15 @@
 ghost use Rattle.std.specs.Prelude.{◌≤◌, ◌<◌, ◌≡◌};
 ghost use Rattle.poly.specs.Coefficients.{Stored};
 ghost use Rattle.field.specs.Primes.{modulus_of};
-ghost use Rattle.lanes.specs.Lanes.{Constants, Inverses};
-ghost use Rattle.pairs.specs.Held.{PairHeld, Held, Beside, Fits, longer_of, kept_state, Advanced, Freed, Leads, Stepped};
+ghost use Rattle.lanes.specs.ModulusOf.{IsModulusOf};
+ghost use Rattle.pairs.specs.Held.{Ready, Fits, Advanced, Stays, Freed, Leads, Stepped};
 
 use field::Prime;
+use lanes::Modulus;
 use montgomery::Factor;
 
-// A pair whose polynomials stand in arrays: its number e, from where on both polynomials are zero, and how many entries the last row wrote
-// of each of them and of their discrepancies.
+// Of a pair: its number e, from where on both polynomials are zero, and how many entries the last row wrote of each of them and of their
+// discrepancies.
 #[derive(Clone, Copy)]
 pub struct PairState {
     pub e: usize,
@@ -18,17 +19,18 @@ pub struct PairState {
     pub discrepancies: usize,
 }
 
-// The first pair leads in a, the second in b.
+// A pair whose polynomials a and b stand in arrays, with its discrepancies d.
 #[derive(Clone, Copy)]
-pub struct PairStates {
-    pub first: PairState,
-    pub second: PairState,
+pub struct PairArrays {
+    pub state: PairState,
+    pub a: [u16; 32],
+    pub b: [u16; 32],
+    pub d: [u16; 32],
 }
 
-// The pair that is advanced at a row.
+// The pair that is advanced at a row. The first leads in a, the second in b.
 #[derive(Clone, Copy)]
 pub enum Leader {
-    Neither,
     First,
     Second,
 }
@@ -43,168 +45,114 @@ pub struct RowStep {
     pub x: Factor,
 }
 
-fn longer(n: usize, l: usize) -> usize
-    ensures { result ≡ longer_of n l }
-{
-    if n < l { l } else { n }
-}
-
-// The pair stays.
-fn kept(side: PairState) -> PairState
-    ensures { result ≡ kept_state side }
-{
-    let e = side.e;
-    let n = side.n;
-    PairState {
-        e: e,
-        n: n,
-        coefficients: 0,
-        discrepancies: 0,
+impl PairArrays {
+    // The pair stays.
+    fn keep(&mut self)
+        ensures { Stays self.old self.new }
+    {
+        self.state.coefficients = 0;
+        self.state.discrepancies = 0;
     }
-}
 
-// The pair (a, b) times (u - x), and its discrepancies d.
-fn advance(
-    ps: &[u16; 32],
-    vs: &[u16; 32],
-    r: RowStep,
-    xs: &[u16; 32],
-    side: PairState,
-    a: &mut [u16; 32],
-    b: &mut [u16; 32],
-    d: &mut [u16; 32],
-) -> PairState
-    requires { Constants r.prime ps.now × Inverses r.prime vs.now × Fits r × Stored (modulus_of r.prime) xs.now
-        × (side.e < 64) × (side.n < 32) × Held r side a.old b.old d.old }
-    ensures { Advanced r ps.now vs.now xs.now
-        side a.old b.old d.old result a.new b.new d.new }
-{
-    let x = r.x;
-    let e = side.e + 1;
-    let n = side.n + 1;
-    let coefficients = lane_linear::times_linear(ps, n, x, a);
-    lane_linear::times_linear(ps, n, x, b);
-    let discrepancies = lane_differences::times_differences(ps, vs, r.index, r.rows, xs, x.form, d);
-    PairState {
-        e: e,
-        n: n,
-        coefficients: coefficients,
-        discrepancies: discrepancies,
+    // The pair times (u - x).
+    #[inline(always)]
+    fn advance(&mut self, m: &Modulus, r: RowStep, xs: &[u16; 32])
+        requires { IsModulusOf r.prime m.now × Fits r × Stored (modulus_of r.prime) xs.now × Ready r self.old }
+        ensures { Advanced r m.now xs.now self.old self.new }
+    {
+        let n = self.state.n + 1;
+        let coefficients = lane_linear::times_linear(m, n, r.x, &mut self.a);
+        lane_linear::times_linear(m, n, r.x, &mut self.b);
+        let discrepancies = lane_differences::times_differences(
+            m,
+            r.index,
+            r.rows,
+            xs,
+            r.x.form,
+            &mut self.d,
+        );
+        self.state = PairState {
+            e: self.state.e + 1,
+            n,
+            coefficients,
+            discrepancies,
+        };
     }
-}
 
-// m (s, t) - c (a, b), in place of (s, t), where m and c are the discrepancies of (a, b) and (s, t) at the row: afterwards (s, t) has none
-// there. Where it had none before, it stays. From n on all four polynomials are zero.
-fn clear(
-    ps: &[u16; 32],
-    r: RowStep,
-    n: usize,
-    a: &[u16; 32],
-    b: &[u16; 32],
-    d: &[u16; 32],
-    side: PairState,
-    s: &mut [u16; 32],
-    t: &mut [u16; 32],
-    e: &mut [u16; 32],
-) -> PairState
-    requires { Constants r.prime ps.now × Fits r × (n ≤ 32) × PairHeld (modulus_of r.prime) n a.now b.now
-        × Stored (modulus_of r.prime) d.now × PairHeld (modulus_of r.prime) n s.old t.old × Stored (modulus_of r.prime) e.old }
-    ensures { Freed r ps.now n a.now b.now d.now
-        side s.old t.old e.old result s.new t.new e.new }
-{
-    let q = r.prime;
-    let k = r.index;
-    if e[k] == 0 {
-        return kept(side);
-    }
-    let m = montgomery::as_factor(q, d[k] as u32);
-    let c = montgomery::as_factor(q, e[k] as u32);
-    let coefficients = lane_combination::combine(ps, 0, n, m, s, c, a);
-    lane_combination::combine(ps, 0, n, m, t, c, b);
-    let discrepancies = lane_combination::combine(ps, k, r.rows, m, e, c, d);
-    let number = side.e;
-    PairState {
-        e: number,
-        n: n,
-        coefficients: coefficients,
-        discrepancies: discrepancies,
-    }
-}
-
-// Both pairs stay.
-fn both_kept(sides: PairStates) -> PairStates
-    ensures { result ≡ record { first = kept_state sides.first; second = kept_state sides.second } }
-{
-    let first = sides.first;
-    let second = sides.second;
-    PairStates {
-        first: kept(first),
-        second: kept(second),
+    // d times the pair less c times the leading one, where d is that one's discrepancy at the row and c the pair's own: afterwards the pair has
+    // none there. Where it had none before, it stays.
+    fn clear(&mut self, m: &Modulus, r: RowStep, lead: &PairArrays)
+        requires { IsModulusOf r.prime m.now × Fits r × Ready r self.old × Ready r lead.now }
+        ensures { Freed r m.now lead.now self.old self.new }
+    {
+        let k = r.index;
+        if self.d[k] == 0 {
+            self.keep();
+            return;
+        }
+        let d = montgomery::as_factor(r.prime, lead.d[k] as u32);
+        let c = montgomery::as_factor(r.prime, self.d[k] as u32);
+        let n = lead.state.n.max(self.state.n);
+        let coefficients = lane_combination::combine(m, 0, n, d, &mut self.a, c, &lead.a);
+        lane_combination::combine(m, 0, n, d, &mut self.b, c, &lead.b);
+        let discrepancies = lane_combination::combine(m, k, r.rows, d, &mut self.d, c, &lead.d);
+        self.state = PairState {
+            e: self.state.e,
+            n,
+            coefficients,
+            discrepancies,
+        };
     }
 }
 
 // Of the pairs that have a discrepancy, m and c, the one with the smaller number leads, and the first of equal ones.
-fn leading(m: u16, c: u16, first: usize, second: usize) -> Leader
+fn leading(m: u16, c: u16, first: usize, second: usize) -> Option<Leader>
     ensures { Leads m c first second result }
 {
     if m == 0 {
         if c == 0 {
-            return Leader::Neither;
+            return None;
         }
-        return Leader::Second;
+        return Some(Leader::Second);
     }
     if c == 0 {
-        return Leader::First;
+        return Some(Leader::First);
     }
     if first <= second {
-        Leader::First
+        Some(Leader::First)
     } else {
-        Leader::Second
+        Some(Leader::Second)
     }
 }
 
-// One row: afterwards both pairs meet its condition. The pair that leads is advanced, and the other freed of its discrepancy.
+// The pair that leads is advanced, and the other freed of its discrepancy.
+#[inline(always)]
+fn exchange(m: &Modulus, r: RowStep, xs: &[u16; 32], lead: &mut PairArrays, other: &mut PairArrays)
+    requires { IsModulusOf r.prime m.now × Fits r × Stored (modulus_of r.prime) xs.now × Ready r lead.old × Ready r other.old }
+    ensures { Advanced r m.now xs.now lead.old lead.new × Freed r m.now lead.old other.old other.new }
+{
+    other.clear(m, r, lead);
+    lead.advance(m, r, xs);
+}
+
+// One row: afterwards both pairs meet its condition.
 pub fn step(
-    ps: &[u16; 32],
-    vs: &[u16; 32],
+    m: &Modulus,
     r: RowStep,
     xs: &[u16; 32],
-    sides: PairStates,
-    a0: &mut [u16; 32],
-    b0: &mut [u16; 32],
-    d0: &mut [u16; 32],
-    a1: &mut [u16; 32],
-    b1: &mut [u16; 32],
-    d1: &mut [u16; 32],
-) -> PairStates
-    requires { Constants r.prime ps.now × Inverses r.prime vs.now × Fits r × Stored (modulus_of r.prime) xs.now
-        × Beside r sides × Held r sides.first a0.old b0.old d0.old × Held r sides.second a1.old b1.old d1.old }
-    ensures { Stepped r ps.now vs.now xs.now
-        sides a0.old b0.old d0.old a1.old b1.old d1.old
-        result a0.new b0.new d0.new a1.new b1.new d1.new }
+    first: &mut PairArrays,
+    second: &mut PairArrays,
+)
+    requires { IsModulusOf r.prime m.now × Fits r × Stored (modulus_of r.prime) xs.now × Ready r first.old × Ready r second.old }
+    ensures { Stepped r m.now xs.now first.old second.old first.new second.new }
 {
     let k = r.index;
-    let first = sides.first;
-    let second = sides.second;
-    match leading(d0[k], d1[k], first.e, second.e) {
-        Leader::Neither => both_kept(sides),
-        Leader::First => {
-            let n = longer(first.n, second.n);
-            let other = clear(ps, r, n, a0, b0, d0, second, a1, b1, d1);
-            let lead = advance(ps, vs, r, xs, first, a0, b0, d0);
-            PairStates {
-                first: lead,
-                second: other,
-            }
+    match leading(first.d[k], second.d[k], first.state.e, second.state.e) {
+        None => {
+            first.keep();
+            second.keep();
         }
-        Leader::Second => {
-            let n = longer(second.n, first.n);
-            let other = clear(ps, r, n, a1, b1, d1, first, a0, b0, d0);
-            let lead = advance(ps, vs, r, xs, second, a1, b1, d1);
-            PairStates {
-                first: other,
-                second: lead,
-            }
-        }
+        Some(Leader::First) => exchange(m, r, xs, first, second),
+        Some(Leader::Second) => exchange(m, r, xs, second, first),
     }
 }

@@ -16,13 +16,13 @@ difference-requires c =
 
 pub loop-k-preserved : goal.loop-k-preserved
 loop-k-preserved c =
-    (omega arith, filled_more c.loop-k.invariant.1 c.difference.result (omega arith) c.difference.ensures)
+    filled_more c.loop-k.invariant c.difference.result (omega arith) c.difference.ensures
 
 pub returns : goal.returns
 returns c =
     let positive : 0 < c.args.p = (let low = c.requires.1 0 in omega arith) in
-    let inv = c.loop-k.invariant.1 in
+    let inv = c.loop-k.invariant in
     (λ k l. inv.done k (omega arith), record { size = inv.size; below = filled_below inv (λ j. mod-lt _ positive) (λ j. positive) })
 
 pub loop-k-init : goal.loop-k-init
-loop-k-init c = (omega arith, filled_none 32 _ _ refl)
+loop-k-init c = filled_none 32 _ _ refl

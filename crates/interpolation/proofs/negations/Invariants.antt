@@ -1,11 +1,8 @@
 -- The negations below k are stored, and the rest are still 0; both are residues.
 use lib.ListN.{get_or}
-use Prim.Native.Nat.{◌+◌, ◌-◌, ◌%◌, ◌≤◌}
+use Prim.Native.Nat.{◌+◌, ◌-◌, ◌%◌}
 use Rattle.lists.proofs.Filling.{Filled}
 use Rattle.interpolation.proofs.negations.Given as goal
 
 abbrev pub invariant-loop-k : goal.invariant-loop-k
-invariant-loop-k l = (l.k ≤ l.rows) × Filled 32 (λ j. (0 + (l.p - get_or l.z j 0)) % l.p) (λ j. 0) l.k l.r.v
-
-abbrev pub decreases-loop-k : goal.decreases-loop-k
-decreases-loop-k l = l.rows - l.k
+invariant-loop-k l = Filled 32 (λ j. (0 + (l.p - get_or l.z j 0)) % l.p) (λ j. 0) l.k l.r

@@ -1,5 +1,5 @@
 use mathlib.Core.Path.{refl}
-use Rattle.lanes.proofs.Changes.{changing_start, changing_next, changing_end, lane_below, splat_below, next_below, reduced_below, combined_is}
+use Rattle.lanes.proofs.Changes.{changing_next, changing_end, lane_below, splat_below, next_below, reduced_below, combined_is}
 use native.Mathlib.Omega.{arith}
 use Rattle.lane_combination.proofs.combine.Goals as goal
 
@@ -22,9 +22,6 @@ loop-k-preserved c =
     let inv = c.loop-k.invariant in
     let value = combined_is inv (omega arith) _ _ _ c.product.ensures c.product-in-loop-k.ensures c.difference.ensures in
     changing_next inv (omega arith) value
-
-pub loop-k-init : goal.loop-k-init
-loop-k-init c = changing_start c.args.m.now.alike c.requires.2 (omega arith) (omega arith)
 
 pub returns : goal.returns
 returns c = (refl, changing_end c.loop-k.invariant (omega arith))

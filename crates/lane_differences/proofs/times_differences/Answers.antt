@@ -1,5 +1,5 @@
 use mathlib.Core.Path.{refl}
-use Rattle.lanes.proofs.Changes.{changing_start, changing_next, changing_end, lane_below, splat_below, next_below, less_below, difference_is}
+use Rattle.lanes.proofs.Changes.{changing_next, changing_end, lane_below, splat_below, difference_is}
 use native.Mathlib.Omega.{arith}
 use Rattle.lane_differences.proofs.times_differences.Goals as goal
 
@@ -8,19 +8,11 @@ difference-d-requires c =
     let x = splat_below c.loop-k.invariant (omega arith) c.requires.3 in
     (lane_below c.loop-k.invariant (omega arith) (c.requires.2.below _), omega arith)
 
-pub product-requires : goal.product-requires
-product-requires c =
-    let inv = c.loop-k.invariant in
-    (less_below inv (omega arith) _ _ c.difference-d.ensures, next_below inv (omega arith))
-
 pub loop-k-preserved : goal.loop-k-preserved
 loop-k-preserved c =
     let inv = c.loop-k.invariant in
     let value = difference_is inv (omega arith) _ _ _ c.difference-d.ensures c.low.ensures c.product.ensures in
     changing_next inv (omega arith) value
-
-pub loop-k-init : goal.loop-k-init
-loop-k-init c = changing_start c.args.m.now.alike c.requires.4 (omega arith) (omega arith)
 
 pub returns : goal.returns
 returns c = (refl, changing_end c.loop-k.invariant (omega arith))

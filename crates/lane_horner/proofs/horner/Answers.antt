@@ -1,10 +1,6 @@
-use Rattle.lanes.proofs.Changes.{changing_start, changing_next, changing_end, lane_below, splat_most, next_below, reduced_below, horner_is}
+use Rattle.lanes.proofs.Changes.{changing_next, changing_end, splat_most, reduced_below, horner_is}
 use native.Mathlib.Omega.{arith}
 use Rattle.lane_horner.proofs.horner.Goals as goal
-
-pub product-requires : goal.product-requires
-product-requires c =
-    (lane_below c.loop-k.invariant (omega arith) (c.requires.1.below _), next_below c.loop-k.invariant (omega arith))
 
 pub difference-requires : goal.difference-requires
 difference-requires c =
@@ -16,9 +12,6 @@ loop-k-preserved c =
     let inv = c.loop-k.invariant in
     let value = horner_is inv (omega arith) _ _ _ c.low.ensures c.product.ensures c.difference.ensures in
     changing_next inv (omega arith) value
-
-pub loop-k-init : goal.loop-k-init
-loop-k-init c = changing_start c.args.m.now.alike c.requires.2 (omega arith) (omega arith)
 
 pub returns : goal.returns
 returns c = (omega arith, changing_end c.loop-k.invariant (omega arith))

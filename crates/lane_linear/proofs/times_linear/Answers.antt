@@ -1,6 +1,5 @@
-use mathlib.Core.Path.{refl}
 use native.Mathlib.Numerals.{add-one}
-use Rattle.lanes.proofs.Changes.{changing_start, changing_same, changing_next, changing_end, lane_below, splat_below, next_below, reduced_below, linear_is}
+use Rattle.lanes.proofs.Changes.{changing_same, changing_next, changing_end, lane_below, splat_below, next_below, reduced_below, linear_is}
 use native.Mathlib.Omega.{arith}
 use Rattle.lane_linear.proofs.times_linear.Goals as goal
 
@@ -20,9 +19,6 @@ loop-k-preserved c =
     let same = changing_same inv.0 in
     let value = linear_is inv.0 (omega arith) _ inv.1 c.product.ensures c.difference.ensures in
     (changing_next inv.0 (omega arith) value, rw add-one same, rw same (inv.0.residues.below _))
-
-pub loop-k-init : goal.loop-k-init
-loop-k-init c = (changing_start c.args.m.now.alike c.requires.1 (omega arith) (omega arith), refl, omega (arith, c.requires.1.below 0))
 
 pub returns : goal.returns
 returns c = (omega arith, changing_end c.loop-k.invariant.0 (omega arith))

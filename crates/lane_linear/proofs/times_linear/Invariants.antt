@@ -2,7 +2,7 @@
 use lib.ListN.{get_or}
 use mathlib.Core.Path.{◌≡◌}
 use mathlib.Core.List.{◌∷◌}
-use Prim.Native.Nat.{◌-◌, ◌<◌}
+use Prim.Native.Nat.{◌<◌}
 use Rattle.lanes.specs.Lanes.{modulus_at, linear_lane}
 use Rattle.lanes.proofs.Changes.{Changing}
 use Rattle.lane_linear.proofs.times_linear.Given as goal
@@ -10,6 +10,3 @@ use Rattle.lane_linear.proofs.times_linear.Given as goal
 abbrev pub invariant-loop-k : goal.invariant-loop-k
 invariant-loop-k l =
     Changing l.m.p 0 l.end (linear_lane l.m.p (record { form = get_or l.xs 0 0; low = get_or l.xl 0 0 }) l.initial.a) l.initial.a l.k l.a × (l.lower ≡ get_or (0 ∷ l.initial.a) l.k 0) × (l.lower < modulus_at l.m.p)
-
-abbrev pub decreases-loop-k : goal.decreases-loop-k
-decreases-loop-k l = l.end - l.k
