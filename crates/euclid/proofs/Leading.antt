@@ -5,9 +5,12 @@ use Prim.Native.Nat.{ℕ, suc, ◌-◌, ◌*◌, ◌%◌, ◌≤◌, ◌<◌}
 use native.Mathlib.Nat.{mod-eq_of_lt}
 use native.Mathlib.Omega.{arith}
 use lib.ListN.{get_or, length}
-use Rattle.reciprocal.specs.declared.OptionalReciprocal.TheVariants.{Number}
+use Rattle.std.specs.Prelude.{Some}
 use Rattle.reciprocal.specs.Reciprocals.{reciprocal_of}
+use Rattle.field.specs.declared.Prime.{Prime}
+use Rattle.field.specs.Primes.{modulus_of}
 use Rattle.field.proofs.Primality.{IsPrime}
+use Rattle.field.proofs.Moduli.{modulus_prime}
 use Rattle.reciprocal.proofs.Reciprocals.{reciprocal_inverts, nonzero_has_one}
 use Rattle.poly.specs.Coefficients.{Bounded, Stored}
 use Rattle.poly.specs.Operations.{length_of}
@@ -51,11 +54,15 @@ module _ {p : ℕ} {b : List ℕ} {lb : ℕ} (D : Divisor p b lb) where
   leading_is = rw degree_is
 
   -- so it has a reciprocal
-  pub leading_number : (i : ℕ) × (Number i ≡ leading_reciprocal p b)
+  pub leading_number : (i : ℕ) × (Some i ≡ leading_reciprocal p b)
   leading_number = let i = nonzero_has_one p D.prime (get_or b (lb - 1) 0) leading-residue in (i.0, i.1 ∙ leading_is)
 
-  pub leading_inverts : {i : ℕ} → Number i ≡ leading_reciprocal p b → i * get_or b (lb - 1) 0 % p ≡ 1
+  pub leading_inverts : {i : ℕ} → Some i ≡ leading_reciprocal p b → i * get_or b (lb - 1) 0 % p ≡ 1
   leading_inverts {i} u = reciprocal_inverts p (get_or b (lb - 1) 0) i (u ∙ sym leading_is)
+
+-- one that an array holds, modulo one of the four primes
+pub divisor_array : (q : Prime) {b : List ℕ} {lb : ℕ} → length b ≡ 32 → lb ≡ length_of b → 0 < lb → Bounded (modulus_of q) lb b → Divisor (modulus_of q) b lb
+divisor_array q {b} size is positive bounded = record { prime = modulus_prime q; is_length = is; positive = positive; fits = (let l = length_array b size in omega arith); bounded = bounded }
 
 pub divisor_of : {p : ℕ} {b : List ℕ} → IsPrime p → Stored p b → (length_of b ≡ 0 → ⊥) → Divisor p b (length_of b)
 divisor_of P s nonzero = record { prime = P; is_length = refl; positive = (let nz = nonzero in omega arith); fits = length_stored s; bounded = stored_bounded s }

@@ -6,7 +6,7 @@ use native.Mathlib.Omega.{arith}
 use lib.ListN.{get_or, length, set, replicate}
 use Rattle.poly.specs.Coefficients.{Bounded}
 use Rattle.poly.proofs.Lists.{bounded_mono}
-use Rattle.reciprocal.specs.declared.OptionalReciprocal.TheVariants.{Number}
+use Rattle.std.specs.Prelude.{Some}
 use Rattle.euclid.specs.Division.{cancelled_of, cancel_factor, division_step, remainder_from, quotient_from, degree_of, leading_reciprocal, remainder_of, quotient_of}
 use Rattle.euclid.proofs.Cancellation.{bounded_step}
 use Rattle.euclid.proofs.Leading.{Divisor, degree_is, leading_inverts}
@@ -20,10 +20,10 @@ pub record Progress (p : ℕ) (a b : List ℕ) (la lb i top : ℕ) (c r : List �
   pub quotient : quotient_of p a b ≡ quotient_from p b (degree_of b) i (top + 1 - lb) r c
   pub bounded : Bounded p top r
 
-module _ {p : ℕ} {b : List ℕ} {lb : ℕ} (D : Divisor p b lb) {i : ℕ} (u : Number i ≡ leading_reciprocal p b) (a : List ℕ) (la : ℕ) where
-  pub progress_start : la ≤ 32 → length a ≡ 32 → Bounded p la a → Progress p a b la lb i la (replicate 32 0) a
-  progress_start l size ba =
-      record { low = omega arith; remainder = remainder_places D l ba size u; quotient = quotient_places D l ba size u; bounded = ba }
+module _ {p : ℕ} {b : List ℕ} {lb : ℕ} (D : Divisor p b lb) {i : ℕ} (u : Some i ≡ leading_reciprocal p b) (a : List ℕ) (la : ℕ) where
+  pub progress_start : {top : ℕ} → top ≡ la → la ≤ 32 → length a ≡ 32 → Bounded p la a → Progress p a b la lb i top (replicate 32 0) a
+  progress_start e l size ba =
+      rw e (record { low = omega arith; remainder = remainder_places D l ba size u; quotient = quotient_places D l ba size u; bounded = ba })
 
   -- one turn, in the code's terms
   pub progress_step : {top : ℕ} {c r r' : List ℕ} {k : ℕ} → Progress p a b la lb i top c r → lb ≤ top

@@ -12,7 +12,7 @@ use Rattle.poly.specs.Operations.{length_of}
 use Rattle.lists.proofs.Tabulated.{at_zeros}
 use Rattle.poly.proofs.Lists.{bounded_mono, bounded_zeros}
 use Rattle.poly.proofs.Lengths.{length_at_most, bounded_length}
-use Rattle.reciprocal.specs.declared.OptionalReciprocal.TheVariants.{Number}
+use Rattle.std.specs.Prelude.{Some}
 use Rattle.euclid.specs.Division.{cancel_factor, division_step, remainder_from, quotient_from, degree_of, leading_reciprocal, remainder_by, quotient_by, remainder_of, quotient_of}
 use Rattle.euclid.proofs.Cancellation.{length-step, bounded_step, factor_none, step_none}
 use Rattle.euclid.proofs.Leading.{Divisor, degree_is, leading_number, leading_inverts}
@@ -88,7 +88,7 @@ module _ (p : ℕ) (b : List ℕ) (m i : ℕ) where
   length-quotient_from (suc n) a c size = length-quotient_from n (division_step p b m i n a) (set c n (cancel_factor p m i n a)) (length-set c n _ ∙ size)
 
 -- the definitions, where i is the reciprocal of b's leading coefficient
-module _ (p : ℕ) (a b : List ℕ) {i : ℕ} (u : Number i ≡ leading_reciprocal p b) where
+module _ (p : ℕ) (a b : List ℕ) {i : ℕ} (u : Some i ≡ leading_reciprocal p b) where
   pub remainder_steps : remainder_of p a b ≡ remainder_from p b (degree_of b) i (length_of a - degree_of b) a
   unfolding remainder_of
   remainder_steps = ap (remainder_by p a b) (sym u)
@@ -110,7 +110,7 @@ module _ {p : ℕ} {b : List ℕ} {lb : ℕ} (D : Divisor p b lb) {a : List ℕ}
   fewer_places = let d = degree_is D in let positive = D.positive in let l = length_at_most a la ba.within in omega arith
 
   -- i is the reciprocal of b's leading coefficient
-  module _ {i : ℕ} (u : Number i ≡ leading_reciprocal p b) where
+  module _ {i : ℕ} (u : Some i ≡ leading_reciprocal p b) where
     pub remainder_places : remainder_of p a b ≡ remainder_from p b (degree_of b) i (la + 1 - lb) a
     remainder_places = remainder_steps p a b u ∙ sym (remainder_skip p b _ i a (length_of a - degree_of b) own_places size (la + 1 - lb) fewer_places)
 

@@ -1,8 +1,6 @@
 -- Long division of polynomials modulo p, as definitions over whole lists of 32 coefficients. The divisor b has degree m, and
 -- i is the reciprocal of its leading coefficient.
-use Rattle.std.specs.Prelude.{List, ◌∷◌, ℕ, zero, suc, ◌+◌, ◌-◌, ◌*◌, ◌%◌, get_or, set, replicate}
-use Rattle.reciprocal.specs.declared.OptionalReciprocal.{OptionalReciprocal}
-use Rattle.reciprocal.specs.declared.OptionalReciprocal.TheVariants.{Number, None}
+use Rattle.std.specs.Prelude.{List, ◌∷◌, ℕ, zero, suc, ◌+◌, ◌-◌, ◌*◌, ◌%◌, get_or, set, replicate, Option, Some, None}
 use Rattle.reciprocal.specs.Reciprocals.{reciprocal_of}
 use Rattle.lists.specs.Tabulated.{tabulate}
 use Rattle.poly.specs.Operations.{length_of}
@@ -42,17 +40,17 @@ unfoldable pub degree_of : List ℕ → ℕ
 degree_of b = length_of b - 1
 
 -- the reciprocal of its leading coefficient; there is none where b is zero
-unfoldable pub leading_reciprocal : ℕ → List ℕ → OptionalReciprocal
+unfoldable pub leading_reciprocal : ℕ → List ℕ → Option ℕ
 leading_reciprocal p b = reciprocal_of p (get_or b (degree_of b) 0)
 
 -- Remainder and quotient of a by b, given that reciprocal. An a of length l leaves l - m places for the steps. Without a reciprocal no step
 -- can be taken: all of a is left.
-abbrev pub remainder_by : ℕ → List ℕ → List ℕ → OptionalReciprocal → List ℕ
-remainder_by p a b (Number i) = remainder_from p b (degree_of b) i (length_of a - degree_of b) a
+abbrev pub remainder_by : ℕ → List ℕ → List ℕ → Option ℕ → List ℕ
+remainder_by p a b (Some i) = remainder_from p b (degree_of b) i (length_of a - degree_of b) a
 remainder_by p a b None = a
 
-abbrev pub quotient_by : ℕ → List ℕ → List ℕ → OptionalReciprocal → List ℕ
-quotient_by p a b (Number i) = quotient_from p b (degree_of b) i (length_of a - degree_of b) a (replicate 32 0)
+abbrev pub quotient_by : ℕ → List ℕ → List ℕ → Option ℕ → List ℕ
+quotient_by p a b (Some i) = quotient_from p b (degree_of b) i (length_of a - degree_of b) a (replicate 32 0)
 quotient_by p a b None = replicate 32 0
 
 unfoldable pub remainder_of : ℕ → List ℕ → List ℕ → List ℕ

@@ -21,17 +21,16 @@ fn plus_product(q: Prime, x: u32, m: u32, y: u32) -> u32
     field::reduce(q, x as u64 + m as u64 * y as u64)
 }
 
-// a - k u^n b, in place of a; returns how many entries it wrote.
-fn cancel(q: Prime, a: &mut [u32; 32], k: u32, n: usize, b: Poly, lb: usize) -> usize
+// a - k u^n b, in place of a.
+fn cancel(q: Prime, a: &mut [u32; 32], k: u32, n: usize, b: Poly, lb: usize)
     requires { (n + lb ≤ 32) × (k < modulus_of q) × Bounded (modulus_of q) 32 a.old × Bounded (modulus_of q) lb b.c × (length a.old ≡ 32) }
-    ensures { (result ≡ lb) × (a.new ≡ cancelled_of (modulus_of q) k n b.c a.old) × (length a.new ≡ 32) }
+    ensures { (a.new ≡ cancelled_of (modulus_of q) k n b.c a.old) × (length a.new ≡ 32) }
 {
     let m = field::modulus(q) - k;
     for j in 0..lb {
         let place = n + j;
         a[place] = plus_product(q, a[place], m, b.c[j]);
     }
-    lb
 }
 
 // Long division of an a with at most la coefficients by a b of length lb. Each turn takes away the coefficient of u^(top - 1).
@@ -43,15 +42,13 @@ pub fn divide(q: Prime, a: Poly, la: usize, b: Poly, lb: usize) -> Division
     let inverse = reciprocal::nonzero_reciprocal(q, b.c[lb - 1]);
     let mut quotient = poly::zero();
     let mut remainder = a.c;
-    let mut top = la;
-    while lb <= top {
+    for top in (lb..la + 1).rev() {
         let k = field::product(q, remainder[top - 1], inverse);
         quotient.c[top - lb] = k;
         cancel(q, &mut remainder, k, top - lb, b, lb);
-        top -= 1;
     }
     Division {
-        quotient: quotient,
+        quotient,
         remainder: Poly { c: remainder },
     }
 }

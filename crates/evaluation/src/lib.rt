@@ -37,10 +37,8 @@ pub fn values(q: Prime, xs: &[u16; 32], rows: usize, n: usize, a: Poly) -> PerRo
 {
     let m = Modulus::new(q);
     let mut v = [0u16; 32];
-    let mut k = n;
-    while 0 < k {
-        k -= 1;
+    for k in (0..n).rev() {
         lane_horner::horner(&m, rows, xs, &mut v, a.c[k] as u16);
     }
-    PerRow { v: v }
+    PerRow { v }
 }

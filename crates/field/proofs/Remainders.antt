@@ -1,7 +1,7 @@
 -- Laws of remainders that the library of numbers lacks.
-use Prim.Native.Nat.{ℕ, ◌+◌, ◌*◌, ◌/◌, ◌%◌, ◌≤◌, ◌<◌, ◌^◌}
+use Prim.Native.Nat.{ℕ, ◌+◌, ◌*◌, ◌/◌, ◌%◌, ◌<◌, ◌^◌}
 use mathlib.Core.Path.{◌≡◌, sym, ap, ◌∙◌}
-use native.Mathlib.Nat.{add-mul-mod_self_right, div-add-mod', le_of_lt, lt_of_le_of_lt, mod-eq_of_lt, mul_comm, mul-le-mul, mul-le-mul_left, mul-lt-mul_of_pos_right}
+use native.Mathlib.Nat.{add-mul-mod_self_right, div-add-mod', le_of_lt, lt_of_le_of_lt, mod-eq_of_lt, mul_comm, mul-le-mul_left, mul-lt-mul_of_pos_right}
 use native.Mathlib.Omega.{arith}
 use lib.Pow.{pow_pos}
 
@@ -28,9 +28,3 @@ same_remainder p a m b n e = sym (add-mul-mod_self_right a m p) ∙ ap (λ x. x 
 pub product-fits : {a b : ℕ} → a < 2 ^ 32 → b < 2 ^ 32 → a * b < 2 ^ 64
 product-fits {a} {b} ha hb =
     lt_of_le_of_lt (mul-le-mul_left a (le_of_lt hb)) (mul-lt-mul_of_pos_right ha (pow_pos 32))
-
--- a product of two numbers of 16 bits
-pub product_of_halves : {x y : ℕ} → x < 65536 → y < 65536 → x * y < 4294967296
-product_of_halves {x} {y} hx hy =
-    let h : x * y ≤ 65535 * 65535 = mul-le-mul {n₂ = 65535} {m₂ = 65535} (omega arith) (omega arith) in
-    omega arith

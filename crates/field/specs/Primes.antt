@@ -1,6 +1,7 @@
 -- Paper 01, "Primes by code": 0 is 7, 1 is 97, 2 is 257, 3 is 65521.
-use Rattle.std.specs.Prelude.{ℕ, zero, suc}
+use Rattle.std.specs.Prelude.{ℕ, zero, suc, Result, Ok, Err, if◌then◌else◌, nat_le}
 use Rattle.field.specs.declared.Prime.{Prime}
+use Rattle.field.specs.declared.UnknownPrime.{UnknownPrime}
 use Rattle.field.specs.declared.Prime.TheVariants.{P7, P97, P257, P65521}
 
 -- the prime as a number
@@ -16,3 +17,7 @@ prime_of_code zero = P7
 prime_of_code (suc zero) = P97
 prime_of_code (suc (suc zero)) = P257
 prime_of_code (suc (suc (suc n))) = P65521
+
+-- the prime that any number names as a code: one above 3 names none
+abbrev pub prime_named : ℕ → Result Prime UnknownPrime
+prime_named code = if nat_le code 3 then Ok (prime_of_code code) else Err (record { 0 = code })

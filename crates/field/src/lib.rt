@@ -2,10 +2,13 @@
 #![tactic(auto)]
 
 ghost use Rattle.std.specs.Prelude.{◌*◌, ◌%◌, ◌≡◌};
-ghost use Rattle.field.specs.Primes.{modulus_of, prime_of_code};
+ghost use Rattle.field.specs.Primes.{modulus_of, prime_named, prime_of_code};
+
+use std::error::Error;
+use std::fmt;
 
 // Paper 01, "Primes by code".
-#[derive(Clone, Copy)]
+#[derive(Clone, Copy, Debug, PartialEq, Eq)]
 pub enum Prime {
     P7,
     P97,
@@ -13,6 +16,7 @@ pub enum Prime {
     P65521,
 }
 
+// For a code of two bits: larger numbers are read as 3.
 pub fn prime_of_code(code: u32) -> Prime
     ensures { result ≡ prime_of_code code }
 {
@@ -23,6 +27,32 @@ pub fn prime_of_code(code: u32) -> Prime
         _ => Prime::P65521,
     }
 }
+
+// A code that names no prime.
+#[derive(Clone, Copy, Debug, PartialEq, Eq)]
+pub struct UnknownPrime(pub u32);
+
+impl TryFrom<u32> for Prime {
+    type Error = UnknownPrime;
+
+    ghost try_from_gives = { λ code result. result ≡ prime_named code };
+
+    fn try_from(code: u32) -> Result<Self, UnknownPrime> {
+        if code <= 3 {
+            Ok(prime_of_code(code))
+        } else {
+            Err(UnknownPrime(code))
+        }
+    }
+}
+
+impl fmt::Display for UnknownPrime {
+    fn fmt<W: fmt::Write>(&self, f: &mut fmt::Formatter<W>) -> fmt::Result {
+        write!(f, "no prime has code {}", self.0)
+    }
+}
+
+impl Error for UnknownPrime {}
 
 pub fn modulus(q: Prime) -> u32
     ensures { result ≡ modulus_of q }

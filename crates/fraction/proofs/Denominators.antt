@@ -5,7 +5,7 @@ use mathlib.Core.List.{List}
 use Prim.Native.Nat.{ℕ, ◌-◌, ◌*◌, ◌%◌, ◌<◌}
 use native.Mathlib.Omega.{arith}
 use Rattle.algebra.proofs.Series.{mul_s, mul_s_null}
-use Rattle.reciprocal.specs.declared.OptionalReciprocal.TheVariants.{Number}
+use Rattle.std.specs.Prelude.{Some}
 use Rattle.reciprocal.specs.Reciprocals.{reciprocal_of}
 use Rattle.field.proofs.Primality.{IsPrime}
 use Rattle.reciprocal.proofs.PrimeField.{residue_ring}
@@ -23,13 +23,13 @@ use Rattle.poly_meaning.proofs.Euclid.{gcd_means}
 use Rattle.fraction.specs.LowestTerms.{unit_of, scaled_by, reduced_numerator, reduced_denominator}
 
 -- the unit that the code computes from the quotient h and its length
-pub unit_is : (p : ℕ) {k n : ℕ} (a b : List ℕ) {h : List ℕ} → h ≡ quotient_of p b (gcd_of p a b) → n ≡ length_of h → Number k ≡ reciprocal_of p (get_or h (n - 1) 0)
-    → Number k ≡ unit_of p a b
+pub unit_is : (p : ℕ) {k n : ℕ} (a b : List ℕ) {h : List ℕ} → h ≡ quotient_of p b (gcd_of p a b) → n ≡ length_of h → Some k ≡ reciprocal_of p (get_or h (n - 1) 0)
+    → Some k ≡ unit_of p a b
 unfolding unit_of leading_reciprocal degree_of
 unit_is p a b {h} eh en ek = ek ∙ ap (λ (t : ℕ). reciprocal_of p (get_or h (t - 1) 0)) en ∙ ap (λ (t : List ℕ). reciprocal_of p (get_or t (length_of t - 1) 0)) eh
 
 -- the definitions, where k is the unit
-module _ (p : ℕ) (a b : List ℕ) {k : ℕ} (u : Number k ≡ unit_of p a b) where
+module _ (p : ℕ) (a b : List ℕ) {k : ℕ} (u : Some k ≡ unit_of p a b) where
   pub numerator_scaled : reduced_numerator p a b ≡ scaled_of p k (quotient_of p a (gcd_of p a b))
   unfolding reduced_numerator
   numerator_scaled = ap (λ r. scaled_by p r (quotient_of p a (gcd_of p a b))) (sym u)
@@ -63,11 +63,11 @@ module _ {p : ℕ} (P : IsPrime p) {a b : List ℕ} (sa : Stored p a) (sb : Stor
   quotient-leading eh en = rw (en, eh) (leading-residue quotient_divisor)
 
   -- .. so there is a unit
-  pub unit_number : (k : ℕ) × (Number k ≡ unit_of p a b)
+  pub unit_number : (k : ℕ) × (Some k ≡ unit_of p a b)
   unfolding unit_of
   unit_number = leading_number quotient_divisor
 
-  pub unit_inverts : {k : ℕ} → Number k ≡ unit_of p a b → k * get_or (quotient_of p b (gcd_of p a b)) (length_of (quotient_of p b (gcd_of p a b)) - 1) 0 % p ≡ 1
+  pub unit_inverts : {k : ℕ} → Some k ≡ unit_of p a b → k * get_or (quotient_of p b (gcd_of p a b)) (length_of (quotient_of p b (gcd_of p a b)) - 1) 0 % p ≡ 1
   unfolding unit_of
   unit_inverts u = leading_inverts quotient_divisor u
 

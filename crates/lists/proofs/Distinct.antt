@@ -10,7 +10,7 @@ use lib.Dec.{eqb}
 use lib.ListN.{get_or}
 use Rattle.lists.specs.Counting.{count_below}
 use Rattle.lists.proofs.Counting.{count_two}
-use Rattle.lists.specs.declared.Found.TheVariants.{Nothing}
+use Rattle.std.specs.Prelude.{None}
 use Rattle.lists.specs.Search.{first_below, any_below, is_found, Distinct}
 use Rattle.lists.proofs.FirstBelow.{none_below}
 
@@ -38,5 +38,5 @@ module _ (a : List ℕ) where
       omega (arith, once r m)
 
   -- where no two are the same, no earlier row has the point of a later one
-  pub none_repeated : {n : ℕ} → Distinct a n → first_below n (λ r. any_below r (λ q. eqb (get_or a q 0) (get_or a r 0))) ≡ Nothing
+  pub none_repeated : {n : ℕ} → Distinct a n → first_below n (λ r. any_below r (λ q. eqb (get_or a q 0) (get_or a r 0))) ≡ None
   none_repeated distinct = none_below _ _ (λ r l. ap is_found (none_below _ _ (λ q m. ne_eqb _ _ (distinct q r m l))))

@@ -40,7 +40,7 @@ fn form(q: Prime, e: u32) -> u16
 pub fn low(a: u16, b: u16) -> u16
     ensures { result ≡ a * b % 65536 }
 {
-    (a as u32 * b as u32 % 65536) as u16
+    a.wrapping_mul(b)
 }
 
 pub fn as_factor(q: Prime, e: u32) -> Factor

@@ -13,12 +13,14 @@ pub fn difference(p: u16, a: u16, b: u16) -> u16
 }
 
 // The number of a factor times a, the factor given by its form and its low half.
+#[tactic(auto, unfolding(crate::specs::Reduction::reduced_of))]
 pub fn product(p: u16, form: u16, low: u16, a: u16) -> u16
     requires { (form < p) × (a < p) }
     ensures { result ≡ reduced_of p form low a }
 {
+    // Kept: no method of the library gives the high half of a product alone.
     let high = form as u32 * a as u32 / 65536;
-    let m = low as u32 * a as u32 % 65536;
-    let taken = m * p as u32 / 65536;
+    let m = low.wrapping_mul(a);
+    let taken = m as u32 * p as u32 / 65536;
     difference(p, high as u16, taken as u16)
 }

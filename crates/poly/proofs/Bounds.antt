@@ -1,7 +1,7 @@
 -- The operations keep their coefficients below p, and are zero where the operands are.
 use mathlib.Core.Path.{◌≡◌, ap, ◌∙◌}
 use mathlib.Core.List.{List}
-use Prim.Native.Nat.{ℕ, zero, suc, ◌+◌, ◌*◌, ◌%◌, ◌≤◌, ◌<◌, ◌^◌}
+use Prim.Native.Nat.{ℕ, zero, suc, ◌+◌, ◌*◌, ◌%◌, ◌≤◌, ◌<◌}
 use native.Mathlib.Nat.{mod-lt, zero-mod, mul-le-mul}
 use native.Mathlib.Omega.{arith}
 use Rattle.field.specs.declared.Prime.{Prime}
@@ -16,12 +16,6 @@ pub small_product : (q : Prime) {x y : ℕ} → x ≤ modulus_of q → y ≤ mod
 small_product q {x} {y} hx hy =
     let top = modulus_small q in
     let h : x * y ≤ 65521 * 65521 = mul-le-mul {n₂ = 65521} {m₂ = 65521} (omega arith) (omega arith) in
-    omega arith
-
--- the product of two numbers of 32 bits and a third one have 64
-pub product_plus_fits : {x y z : ℕ} → x < 2 ^ 32 → y < 2 ^ 32 → z < 2 ^ 32 → z + x * y < 2 ^ 64
-product_plus_fits {x} {y} {z} hx hy hz =
-    let h : x * y ≤ 4294967295 * 4294967295 = mul-le-mul {n₂ = 4294967295} {m₂ = 4294967295} (omega arith) (omega arith) in
     omega arith
 
 pub zero_remainder : (p x : ℕ) → x ≡ 0 → x % p ≡ 0

@@ -17,6 +17,13 @@ pub struct Poly {
     pub c: [u32; 32],
 }
 
+// A vector of fractions in lowest terms: the common denominator and the numerators, those of outputs that do not exist being zero.
+#[derive(Clone, Copy)]
+pub struct Vector {
+    pub g: Poly,
+    pub f: [Poly; 4],
+}
+
 pub fn zero() -> Poly
     ensures { result.c ≡ replicate 32 0 }
 {
@@ -28,12 +35,10 @@ pub fn length(n: usize, a: Poly) -> usize
     requires { (n ≤ 32) × ((k : ℕ) → n ≤ k → get_or a.c k 0 ≡ 0) }
     ensures { (result ≡ length_of a.c) × (result ≤ n) }
 {
-    let mut i = n;
-    while 0 < i {
-        if a.c[i - 1] != 0 {
-            return i;
+    for i in (0..n).rev() {
+        if a.c[i] != 0 {
+            return i + 1;
         }
-        i -= 1;
     }
     0
 }

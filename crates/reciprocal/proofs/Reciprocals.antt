@@ -1,27 +1,17 @@
 -- What the reciprocal is: the one residue whose product with a leaves 1.
 use Prim.Native.Nat.{ℕ, zero, suc, ◌+◌, ◌*◌, ◌-◌, ◌/◌, ◌%◌, ◌≤◌, ◌<◌}
-use mathlib.Core.Path.{◌≡◌, refl, sym, ap, ◌∙◌}
+use mathlib.Core.Path.{◌≡◌, sym, ap, ◌∙◌}
 use mathlib.Core.Logic.{◌↔◌}
 use native.Mathlib.Nat.{add-mul-mod_self_right, div-add-mod', mod-eq_of_lt, mod-lt, mul-le-mul_left, one-mul}
 use native.Mathlib.Decide.{dec_le}
 use native.Mathlib.Omega.{arith}
 use lib.Dec.{eqb}
 use borrow.Author.Tests.{eq-eqb, ne_eqb, eqb-true}
-use Rattle.lists.specs.declared.Found.{Found}
-use Rattle.lists.specs.declared.Found.TheVariants.{At, Nothing}
-use Rattle.lists.specs.Search.{first_below}
-use Rattle.lists.proofs.FirstBelow.{found_only, found_passes, none_below, first_cong}
-use Rattle.reciprocal.specs.declared.OptionalReciprocal.TheVariants.{Number, None}
-use Rattle.reciprocal.specs.Reciprocals.{reciprocal_found, reciprocal_of}
-use Rattle.lists.proofs.Truth.{clash}
+use Rattle.lists.proofs.FirstBelow.{at_not_nothing, found_only, found_passes, none_below, first_cong}
+use Rattle.std.specs.Prelude.{Some, None}
+use Rattle.reciprocal.specs.Reciprocals.{reciprocal_of}
 use Rattle.field.proofs.Remainders.{mod-mul, mul-mod, times_unit}
 use Rattle.field.proofs.Primality.{IsPrime}
-
-pub number_not_none : {r : ℕ} → Number r ≡ None → ⊥
-number_not_none e = clash cc
-
-same_number : {r s : ℕ} → Number r ≡ Number s → r ≡ s
-same_number e = cc
 
 module _ (p a : ℕ) where
   -- s = s r a = r s a = r
@@ -30,24 +20,19 @@ module _ (p a : ℕ) where
       let swap : s * (r * a) ≡ r * (s * a) = omega arith in
       sym (times_unit p s (r * a) ls er) ∙ ap (λ x. x % p) swap ∙ times_unit p r (s * a) lr es
 
-  pub reciprocal_is : (r : ℕ) → r < p → r * a % p ≡ 1 → Number r ≡ reciprocal_of p a
+  pub reciprocal_is : (r : ℕ) → r < p → r * a % p ≡ 1 → Some r ≡ reciprocal_of p a
   unfolding reciprocal_of
-  reciprocal_is r l e =
-      ap reciprocal_found (sym (found_only _ p r l (eq-eqb _ _ e) (λ s ls t. at_most_one r s l ls e (eqb-true _ _ t))))
+  reciprocal_is r l e = sym (found_only _ p r l (eq-eqb _ _ e) (λ s ls t. at_most_one r s l ls e (eqb-true _ _ t)))
 
   -- what is a reciprocal leaves 1
-  pub reciprocal_inverts : (r : ℕ) → Number r ≡ reciprocal_of p a → r * a % p ≡ 1
+  pub reciprocal_inverts : (r : ℕ) → Some r ≡ reciprocal_of p a → r * a % p ≡ 1
   unfolding reciprocal_of
-  reciprocal_inverts r e = by (first_below p (λ s. eqb (s * a % p) 1)) refl e
-    where
-      by : (f : Found) → first_below p (λ s. eqb (s * a % p) 1) ≡ f → Number r ≡ reciprocal_found f → r * a % p ≡ 1
-      by (At s) found e = rw (same_number e) (eqb-true _ _ (found_passes _ p s found))
-      by Nothing found e = absurd (number_not_none e)
+  reciprocal_inverts r e = eqb-true _ _ (found_passes _ p r (sym e))
 
   -- whatever is 0 modulo p has none
   pub zero_has_none : 1 < p → a % p ≡ 0 → None ≡ reciprocal_of p a
   unfolding reciprocal_of
-  zero_has_none two z = ap reciprocal_found (sym (none_below _ p (λ s l. ne_eqb _ _ (not_one s))))
+  zero_has_none two z = sym (none_below _ p (λ s l. ne_eqb _ _ (not_one s)))
     where
       not_one : (s : ℕ) → s * a % p ≡ 1 → ⊥
       not_one s e =
@@ -57,7 +42,7 @@ module _ (p a : ℕ) where
 
   pub reciprocal_of_residue : reciprocal_of p (a % p) ≡ reciprocal_of p a
   unfolding reciprocal_of
-  reciprocal_of_residue = ap reciprocal_found (first_cong p _ _ (λ r l. ap (λ t. eqb t 1) (mul-mod r a p)))
+  reciprocal_of_residue = first_cong p _ _ (λ r l. ap (λ t. eqb t 1) (mul-mod r a p))
 
 -- One step of the computation: p = (p / b) b + p % b, so p - p / b times b leaves p % b.
 next_factor : (p b : ℕ) → 1 < b → b * (p - p / b) % p ≡ p % b % p
@@ -99,18 +84,18 @@ module _ (p : ℕ) (P : IsPrime p) (a : ℕ) where
       (f.0 % p, mod-lt _ (omega arith), mod-mul f.0 a p ∙ f.1)
 
   -- modulo a prime only what is 0 has none
-  pub nonzero_has_one : 0 < a % p → (r : ℕ) × (Number r ≡ reciprocal_of p a)
+  pub nonzero_has_one : 0 < a % p → (r : ℕ) × (Some r ≡ reciprocal_of p a)
   nonzero_has_one l = let i = inverse_exists l in (i.0, reciprocal_is p a i.0 i.1 i.2)
 
   pub none_exactly : (reciprocal_of p a ≡ None) ↔ (a % p ≡ 0)
   none_exactly = (
-    λ e. let nonzero : 0 < a % p → ⊥ = λ l. number_not_none ((nonzero_has_one l).1 ∙ e) in omega arith,
+    λ e. let nonzero : 0 < a % p → ⊥ = λ l. at_not_nothing ((nonzero_has_one l).1 ∙ e) in omega arith,
     λ z. sym (zero_has_none p a (let two = P.two in omega arith) z),
   )
 
-  pub reciprocal_below : (r : ℕ) → Number r ≡ reciprocal_of p a → r < p
+  pub reciprocal_below : (r : ℕ) → Some r ≡ reciprocal_of p a → r < p
   reciprocal_below r e =
-      let nonzero : a % p ≡ 0 → ⊥ = λ z. number_not_none (e ∙ none_exactly.1 z) in
+      let nonzero : a % p ≡ 0 → ⊥ = λ z. at_not_nothing (e ∙ none_exactly.1 z) in
       let i = inverse_exists (omega arith) in
-      let same : r ≡ i.0 = same_number (e ∙ sym (reciprocal_is p a i.0 i.1 i.2)) in
+      let same : r ≡ i.0 = cc (reciprocal_is p a i.0 i.1 i.2) in
       omega (arith, i.1)

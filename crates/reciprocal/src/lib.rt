@@ -3,7 +3,6 @@
 
 ghost use Rattle.std.specs.Prelude.{◌%◌, ◌<◌, ◌≡◌};
 ghost use Rattle.field.specs.Primes.{modulus_of};
-ghost use Rattle.reciprocal.specs.declared.OptionalReciprocal.TheVariants.{Number};
 ghost use Rattle.reciprocal.specs.Reciprocals.{reciprocal_of};
 ghost use Rattle.reciprocal.specs.Reports.{coded_reciprocal, reciprocal_report_of};
 
@@ -11,17 +10,10 @@ use field::Prime;
 
 mod table257;
 
-// Paper 02, item 2: the reciprocal of a number, or "no reciprocal".
-#[derive(Clone, Copy)]
-pub enum OptionalReciprocal {
-    Number(u32),
-    None,
-}
-
 // Keeps acc * a = b modulo p while b falls to 1. It never is 0, since no b between 1 and p divides the prime p.
 fn computed_reciprocal(q: Prime, a: u32) -> u32
     requires { (0 < a) × (a < modulus_of q) }
-    ensures { Number result ≡ reciprocal_of (modulus_of q) a }
+    ensures { Some result ≡ reciprocal_of (modulus_of q) a }
 {
     let p = field::modulus(q);
     let mut acc: u32 = 1;
@@ -36,7 +28,7 @@ fn computed_reciprocal(q: Prime, a: u32) -> u32
 // The reciprocal of a residue that is not 0.
 fn residue_reciprocal(q: Prime, a: u32) -> u32
     requires { (0 < a) × (a < modulus_of q) }
-    ensures { Number result ≡ reciprocal_of (modulus_of q) a }
+    ensures { Some result ≡ reciprocal_of (modulus_of q) a }
 {
     match q {
         Prime::P257 => table257::reciprocal_of(a),
@@ -47,30 +39,29 @@ fn residue_reciprocal(q: Prime, a: u32) -> u32
 // For a caller that has excluded 0 modulo p: the number itself.
 pub fn nonzero_reciprocal(q: Prime, a: u32) -> u32
     requires { 0 < a % modulus_of q }
-    ensures { Number result ≡ reciprocal_of (modulus_of q) a }
+    ensures { Some result ≡ reciprocal_of (modulus_of q) a }
 {
     residue_reciprocal(q, field::reduce(q, a as u64))
 }
 
-// Whatever is 0 modulo p has none.
-pub fn reciprocal(q: Prime, a: u32) -> OptionalReciprocal
+// Paper 02, item 2: the reciprocal of a number, or "no reciprocal". Whatever is 0 modulo p has none.
+pub fn reciprocal(q: Prime, a: u32) -> Option<u32>
     ensures { result ≡ reciprocal_of (modulus_of q) a }
 {
     let x = field::reduce(q, a as u64);
     if x == 0 {
-        return OptionalReciprocal::None;
+        return None;
     }
-    OptionalReciprocal::Number(residue_reciprocal(q, x))
+    Some(residue_reciprocal(q, x))
 }
 
 // Any code: one above 3 names no prime.
-pub fn coded_reciprocal(code: u32, a: u32) -> OptionalReciprocal
+#[tactic(auto, unfolding(crate::specs::Reports::coded_reciprocal))]
+pub fn coded_reciprocal(code: u32, a: u32) -> Option<u32>
     ensures { result ≡ coded_reciprocal code a }
 {
-    if code <= 3 {
-        return reciprocal(field::prime_of_code(code), a);
-    }
-    OptionalReciprocal::None
+    let q = Prime::try_from(code).ok()?;
+    reciprocal(q, a)
 }
 
 // The number beside "no reciprocal": no residue of any prime, so that nobody takes it for a value.
@@ -84,17 +75,16 @@ pub struct ReciprocalReport {
     pub value: u32,
 }
 
-pub fn reported(answer: OptionalReciprocal) -> ReciprocalReport
-    ensures { result ≡ reciprocal_report_of answer }
-{
-    match answer {
-        OptionalReciprocal::Number(value) => ReciprocalReport {
-            exists: 1,
-            value: value,
-        },
-        OptionalReciprocal::None => ReciprocalReport {
-            exists: 0,
-            value: NO_RECIPROCAL,
-        },
+impl From<Option<u32>> for ReciprocalReport {
+    ghost from_gives = { λ answer report. report ≡ reciprocal_report_of answer };
+
+    fn from(answer: Option<u32>) -> ReciprocalReport {
+        match answer {
+            Some(value) => ReciprocalReport { exists: 1, value },
+            None => ReciprocalReport {
+                exists: 0,
+                value: NO_RECIPROCAL,
+            },
+        }
     }
 }

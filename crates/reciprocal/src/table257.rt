@@ -1,6 +1,5 @@
 // Reciprocals modulo 257, from a constant table.
 ghost use Rattle.std.specs.Prelude.{◌<◌, ◌≡◌};
-ghost use Rattle.reciprocal.specs.declared.OptionalReciprocal.TheVariants.{Number};
 ghost use Rattle.reciprocal.specs.Reciprocals.{reciprocal_of, table_entry};
 
 // Entry times index is 1 modulo 257; entry 0 is 0, as 0 has no reciprocal.
@@ -32,7 +31,7 @@ fn entry_at(index: u32) -> u32
 // The reciprocal of a residue that is not 0.
 pub fn reciprocal_of(a: u32) -> u32
     requires { (0 < a) × (a < 257) }
-    ensures { Number result ≡ reciprocal_of 257 a }
+    ensures { Some result ≡ reciprocal_of 257 a }
 {
     entry_at(a)
 }

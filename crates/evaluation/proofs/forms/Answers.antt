@@ -7,11 +7,11 @@ use Rattle.evaluation.proofs.forms.Goals as goal
 
 pub loop-l-preserved : goal.loop-l-preserved
 loop-l-preserved c =
-    (omega arith, filled_more c.loop-l.invariant.1 c.as_factor-x.result.form (omega arith) (ap (λ (f : Factor). f.form) c.as_factor-x.ensures))
+    filled_more c.loop-l.invariant c.as_factor-x.result.form (omega arith) (ap (λ (f : Factor). f.form) c.as_factor-x.ensures)
 
 pub returns : goal.returns
 unfolding each_point
-returns c = filled_up_to c.loop-l.invariant.1 _ (omega arith)
+returns c = filled_up_to c.loop-l.invariant _ (omega arith)
 
 pub loop-l-init : goal.loop-l-init
-loop-l-init c = (omega arith, filled_none 32 _ _ refl)
+loop-l-init c = filled_none 32 _ _ refl

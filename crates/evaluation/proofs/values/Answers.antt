@@ -1,7 +1,7 @@
 use mathlib.Core.Path.{◌≡◌, refl, ◌∙◌}
 use Prim.Native.Nat.{ℕ, ◌+◌, ◌-◌, ◌<◌}
 use lib.ListN.{get_or, length, replicate}
-use Rattle.field.proofs.Moduli.{modulus_positive, modulus_small}
+use Rattle.field.proofs.Moduli.{modulus_positive}
 use Rattle.lists.proofs.Tabulated.{at_zeros}
 use Rattle.lanes.specs.Lanes.{modulus_at, Residues}
 use Rattle.lanes_meaning.proofs.Meaning.{stored_replaced, horner_below}
@@ -14,14 +14,14 @@ pub loop-k-init : goal.loop-k-init
 loop-k-init c =
     let e = c.new-m.ensures.constants.number in
     let zero : (l : ℕ) → get_or (replicate 32 0) l 0 < modulus_at c.new-m.result.p = λ l. rw (at_zeros 32 l, e) (modulus_positive c.args.q) in
-    (omega arith, record { size = refl; below = zero }, λ points h. values-start _ _ _ points _ c.requires.2.within)
+    (record { size = refl; below = zero }, λ points h. values-start _ _ _ points _ c.requires.2.within)
 
 pub horner-requires : goal.horner-requires
 horner-requires c =
     let e = c.new-m.ensures.constants.number in
     let narrow = narrow_formed c.args.q c.requires.3 in
     let forms : Residues c.new-m.result.p c.args.xs.now = record { size = narrow.size; below = λ l. rw e (narrow.below l) } in
-    (c.requires.0, forms, c.loop-k.invariant.1, rw e (c.requires.2.residues (c.loop-k.k - 1)))
+    (c.requires.0, forms, c.loop-k.invariant.0, rw e (c.requires.2.residues (c.loop-k.k - 1)))
 
 pub loop-k-preserved : goal.loop-k-preserved
 loop-k-preserved c =
@@ -33,16 +33,6 @@ loop-k-preserved c =
     let e = c.horner.ensures.1 in
     let next : k - 1 + 1 ≡ k = omega arith in
     let size = size_of in (
-      omega arith,
-      rw e (stored_replaced _ _ _ inv.1 (λ l h. horner_below m.constants l h _ _ _ _)),
-      λ points h. e ∙ values-step m.constants m.inverses _ c.requires.0 points c.args.a.c _ _ (k - 1) _ h (rw next (inv.2 points h)) (omega arith) refl low,
+      rw e (stored_replaced _ _ _ inv.0 (λ l h. horner_below m.constants l h _ _ _ _)),
+      λ points h. e ∙ values-step m.constants m.inverses _ c.requires.0 points c.args.a.c _ _ (k - 1) _ h (rw next (inv.1 points h)) (omega arith) refl low,
     )
-
-pub returns : goal.returns
-returns c =
-    let none : c.loop-k.k ≡ 0 = omega arith in
-    λ points h. rw (c.new-m.ensures.constants.number, none) at (c.loop-k.invariant.2 points (rw c.new-m.ensures.constants.number h))
-
-pub overflow_cast-a : goal.overflow_cast-a
-overflow_cast-a c =
-    omega (arith, c.requires.2.residues (c.loop-k.k - 1), modulus_small c.args.q)

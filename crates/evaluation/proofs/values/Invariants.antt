@@ -1,5 +1,4 @@
 -- Horner's rule from the top: v has the values of the coefficients from k on, as a polynomial of their own, at whatever points have the forms xs.
-use Prim.Native.Nat.{◌≤◌}
 use lib.ListN.{drop}
 use Rattle.lanes.specs.Lanes.{modulus_at, Residues}
 use Rattle.evaluation.specs.Values.{Evaluated}
@@ -7,7 +6,4 @@ use Rattle.evaluation.proofs.values.Given as goal
 
 abbrev pub invariant-loop-k : goal.invariant-loop-k
 invariant-loop-k l =
-    (l.k ≤ l.n) × Residues l.m.p l.v × Evaluated (modulus_at l.m.p) l.xs l.rows (drop l.k l.a.c) l.v
-
-abbrev pub decreases-loop-k : goal.decreases-loop-k
-decreases-loop-k l = l.k
+    Residues l.m.p l.v × Evaluated (modulus_at l.m.p) l.xs l.rows (drop l.k l.a.c) l.v

@@ -1,25 +1,11 @@
 use Prim.Native.Nat.{◌*◌, ◌-◌, ◌/◌, ◌%◌, ◌<◌}
 use mathlib.Core.Path.{◌≡◌, sym, ap, subst, ◌∙◌}
-use native.Mathlib.Nat.{div-le_self, mod-eq_of_lt, mod-lt, one-mul}
+use native.Mathlib.Nat.{mod-lt}
 use native.Mathlib.Omega.{arith}
 use Rattle.field.proofs.Moduli.{modulus_prime}
 use Rattle.field.proofs.Primality.{IsPrime}
 use Rattle.reciprocal.proofs.Reciprocals.{reciprocal_is, reciprocal-step}
 use Rattle.reciprocal.proofs.computed_reciprocal.Goals as goal
-
-pub loop-b-init : goal.loop-b-init
-loop-b-init c =
-    let e = c.modulus-p.ensures in
-    let a = c.args.a in
-    let P = modulus_prime c.args.q in
-    let small : a < c.modulus-p.result = omega (arith, c.requires.1) in
-    (e, c.requires.0, small, omega (arith, P.two), ap (λ x. x % c.modulus-p.result) (one-mul a) ∙ mod-eq_of_lt small)
-
-pub overflow_sub-p : goal.overflow_sub-p
-overflow_sub-p c = div-le_self _ _
-
-pub loop-b-smaller : goal.loop-b-smaller
-loop-b-smaller c = mod-lt _ (omega arith)
 
 pub loop-b-preserved : goal.loop-b-preserved
 loop-b-preserved c =

@@ -1,14 +1,8 @@
 use mathlib.Core.Path.{ap, ◌∙◌}
-use native.Mathlib.Omega.{arith}
 use Rattle.field.specs.Primes.{modulus_of}
-use Rattle.field.proofs.Moduli.{residue_below}
 use Rattle.reciprocal.specs.Reciprocals.{reciprocal_of}
 use Rattle.reciprocal.proofs.Reciprocals.{reciprocal_of_residue}
 use Rattle.reciprocal.proofs.nonzero_reciprocal.Goals as goal
-
-pub residue_reciprocal-requires : goal.residue_reciprocal-requires
-residue_reciprocal-requires c =
-    omega (arith, c.requires, residue_below c.args.q c.args.a, c.reduce.ensures)
 
 pub returns : goal.returns
 returns c =

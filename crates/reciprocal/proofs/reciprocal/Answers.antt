@@ -2,7 +2,7 @@
 use mathlib.Core.Path.{ap, ◌∙◌}
 use native.Mathlib.Omega.{arith}
 use Rattle.field.specs.Primes.{modulus_of}
-use Rattle.field.proofs.Moduli.{modulus_prime, residue_below}
+use Rattle.field.proofs.Moduli.{modulus_prime}
 use Rattle.reciprocal.specs.Reciprocals.{reciprocal_of}
 use Rattle.reciprocal.proofs.Reciprocals.{reciprocal_of_residue, zero_has_none}
 use Rattle.reciprocal.proofs.reciprocal.Goals as goal
@@ -12,10 +12,6 @@ returns-then-x-eq0 c =
     let g = c.args in
     let two = (modulus_prime g.q).two in
     zero_has_none (modulus_of g.q) g.a (omega arith) (omega (arith, c.reduce-x.ensures, c.if-x-eq0.true))
-
-pub residue_reciprocal-requires : goal.residue_reciprocal-requires
-residue_reciprocal-requires c =
-    omega (arith, residue_below c.args.q c.args.a, c.reduce-x.ensures)
 
 pub returns : goal.returns
 returns c =

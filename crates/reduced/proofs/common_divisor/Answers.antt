@@ -1,4 +1,4 @@
-use mathlib.Core.Path.{◌≡◌, refl, sym, ap, ◌∙◌}
+use mathlib.Core.Path.{refl, sym, ap, ◌∙◌}
 use native.Mathlib.Omega.{arith}
 use Rattle.field.specs.Primes.{modulus_of}
 use Rattle.field.proofs.Moduli.{modulus_prime}
@@ -9,34 +9,28 @@ use Rattle.euclid.specs.Euclid.{gcd_of}
 use Rattle.reduced.specs.CommonDivisor.{common_divisor_of}
 use Rattle.reduced.proofs.CommonDivisors.{stored_full, common_next, common_stored}
 use Rattle.reduced.proofs.common_divisor.Goals as goal
+use Rattle.reduced.proofs.common_divisor.Goals.{In-loop-i}
 
 pub loop-i-init : goal.loop-i-init
 unfolding common_divisor_of
-loop-i-init c = (omega arith, refl)
+loop-i-init c = refl
+
+-- the coefficients of the divisor found so far are below the modulus
+stored : (c : In-loop-i) → Stored (modulus_of c.args.q) c.loop-i.c.c
+stored c =
+    rw c.loop-i.invariant
+    (common_stored _ (modulus_prime c.args.q) (coefficients_at c.args.v.now.f) c.requires.1 c.loop-i.i (λ i l. c.requires.2 i (omega arith)))
 
 pub length-lc-requires : goal.length-lc-requires
-length-lc-requires c =
-    -- its coefficients are below the modulus
-    let stored : Stored (modulus_of c.args.q) c.loop-i.c.c = (rw c.loop-i.invariant.1
-    (common_stored _ (modulus_prime c.args.q) (coefficients_at c.args.f) c.requires.1 c.loop-i.i (λ i l. c.requires.2 i (omega arith)))) in
-    (omega arith, (stored_full stored).within)
+length-lc-requires c = (omega arith, (stored_full (stored c)).within)
 
 pub gcd-c-requires : goal.gcd-c-requires
 gcd-c-requires c =
-    -- its coefficients are below the modulus
-    let stored : Stored (modulus_of c.args.q) c.loop-i.c.c = (rw c.loop-i.invariant.1
-    (common_stored _ (modulus_prime c.args.q) (coefficients_at c.args.f) c.requires.1 c.loop-i.i (λ i l. c.requires.2 i (omega arith)))) in
     let e = c.length-lc.ensures.0 in
-    (omega arith, stored_full (c.requires.2 c.loop-i.i (omega arith)), e, rw e (stored_bounded stored))
+    (omega arith, stored_full (c.requires.2 c.loop-i.i (omega arith)), e, rw e (stored_bounded (stored (goal.at.gcd-c-requires c).In-loop-i)))
 
 pub loop-i-preserved : goal.loop-i-preserved
 loop-i-preserved c =
-    let g = c.args in
-    let p = modulus_of g.q in
-    let f = coefficients_at g.f in
-    (omega arith, c.gcd-c.ensures.0 ∙ ap (gcd_of p (f c.loop-i.i)) c.loop-i.invariant.1 ∙ sym (common_next p f g.g.c c.loop-i.i))
-
-pub returns : goal.returns
-returns c =
-    let all : c.loop-i.i ≡ c.args.outputs = omega arith in
-    rw all at c.loop-i.invariant.1
+    let p = modulus_of c.args.q in
+    let f = coefficients_at c.args.v.now.f in
+    c.gcd-c.ensures.0 ∙ ap (gcd_of p (f c.loop-i.i)) c.loop-i.invariant ∙ sym (common_next p f c.args.v.now.g.c c.loop-i.i)

@@ -1,13 +1,10 @@
 -- The length of g, its leading coefficient and the length of the greatest common divisor decide.
 use mathlib.Core.Path.{◌≡◌, sym, ap, ◌∙◌}
 use Prim.Native.Nat.{ℕ, ◌-◌}
-use native.Mathlib.Omega.{arith}
-use lib.ListN.{get_or, length}
-use borrow.Author.Rules.{rules}
+use lib.ListN.{get_or}
 use borrow.Author.Tests.{eqb-true, eq-eqb}
 use Rattle.field.specs.Primes.{modulus_of}
 use Rattle.field.proofs.Moduli.{modulus_prime}
-use Rattle.lists.proofs.Tabulated.{at_past}
 use Rattle.lists.proofs.Truth.{refuted}
 use Rattle.poly.specs.Vectors.{coefficients_at}
 use Rattle.poly.specs.Operations.{length_of}
@@ -15,29 +12,19 @@ use Rattle.reduced.specs.CommonDivisor.{common_divisor_of}
 use Rattle.reduced.proofs.Decision.{leading_nonzero, leading_top, reduced_constant, constant_reduced}
 use Rattle.reduced.proofs.is_reduced.Goals as goal
 
-pub length-lg-requires : goal.length-lg-requires
-length-lg-requires c =
-    let size : length c.args.g.c ≡ 32 = search rules in
-    (omega arith, λ k l. at_past c.args.g.c k (omega arith))
-
 pub returns-then-lg-eq0 : goal.returns-then-lg-eq0
 returns-then-lg-eq0 c = refuted (λ r. leading_nonzero r.monic (sym c.length-lg.ensures.0 ∙ c.if-lg-eq0.true))
 
-pub returns-then-g-lg-ne1 : goal.returns-then-g-lg-ne1
-returns-then-g-lg-ne1 c =
-    let g = c.args.g.c in
-    refuted (λ r. c.if-g-lg-ne1.true (ap (λ (n : ℕ). get_or g (n - 1) 0) c.length-lg.ensures.0 ∙ leading_top r.monic))
-
-pub length-requires : goal.length-requires
-length-requires c =
-    let size : length c.common_divisor-c.result.c ≡ 32 = search rules in
-    (omega arith, λ k l. at_past c.common_divisor-c.result.c k (omega arith))
+pub returns-then-v-lg-ne1 : goal.returns-then-v-lg-ne1
+returns-then-v-lg-ne1 c =
+    let g = c.args.v.now.g.c in
+    refuted (λ r. c.if-v-lg-ne1.true (ap (λ (n : ℕ). get_or g (n - 1) 0) c.length-lg.ensures.0 ∙ leading_top r.monic))
 
 pub returns : goal.returns
 returns c =
     let P = modulus_prime c.args.q in
-    let f = coefficients_at c.args.f in
-    let g = c.args.g.c in
+    let f = coefficients_at c.args.v.now.f in
+    let g = c.args.v.now.g.c in
     let nonzero : length_of g ≡ 0 → ⊥ = (λ z. c.if-lg-eq0.false (c.length-lg.ensures.0 ∙ z)) in
     let top : get_or g (length_of g - 1) 0 ≡ 1 = cc (c.length-lg.ensures.0) in
     let d = common_divisor_of (modulus_of c.args.q) f g c.args.outputs in

@@ -1,24 +1,15 @@
 use native.Mathlib.Omega.{arith}
 use Rattle.field.proofs.Moduli.{modulus_positive}
 use Rattle.poly.specs.Operations.{product_of}
-use Rattle.lists.proofs.Filling.{filled_none, filled_more, filled_all}
+use Rattle.lists.proofs.Filling.{filled_none, filled_all}
 use Rattle.poly.proofs.Products.{product-reduced_past, bounded_product}
 use Rattle.poly.proofs.multiplication.product.Goals as goal
 
-pub product_coefficient-requires : goal.product_coefficient-requires
-product_coefficient-requires c =
-    let pre = c.requires in
-    (omega arith, pre.1, pre.2)
-
-pub loop-k-preserved : goal.loop-k-preserved
-loop-k-preserved c =
-    (omega arith, filled_more c.loop-k.invariant.1 c.product_coefficient.result (omega arith) c.product_coefficient.ensures)
+pub loop-k-init : goal.loop-k-init
+loop-k-init c = filled_none 32 _ _ c.zero-r.ensures
 
 pub returns : goal.returns
 unfolding product_of
 returns c =
-    let e = filled_all c.loop-k.invariant.1 (λ j l. product-reduced_past c.requires.1 c.requires.2 j (omega arith)) in
+    let e = filled_all c.loop-k.invariant (λ j l. product-reduced_past c.requires.1 c.requires.2 j (omega arith)) in
     (e, rw e (bounded_product c.requires.1 c.requires.2 (modulus_positive c.args.q)))
-
-pub loop-k-init : goal.loop-k-init
-loop-k-init c = (omega arith, filled_none 32 _ _ c.zero-r.ensures)

@@ -9,27 +9,18 @@ use Rattle.poly.proofs.multiplication.product_coefficient.Goals as goal
 
 pub loop-i-init : goal.loop-i-init
 loop-i-init c =
-    let e = c.first_term-i.ensures in
-    let pre = c.requires in
-    (omega arith, sym (rw e (product-start pre.1 pre.2 _)), omega arith)
-
-pub overflow_add-acc : goal.overflow_add-acc
-overflow_add-acc c =
-    let e = c.end_of_terms-end.ensures in
-    let h = small_product c.args.q (le_of_lt (c.requires.1.residues c.loop-i.i)) (le_of_lt (c.requires.2.residues (c.args.k - c.loop-i.i))) in
-    let t = c.term-acc.ensures in
-    omega arith
+    let e = c.saturating_sub-i.ensures in
+    (omega arith, sym (rw e (product-start c.requires.1 c.requires.2 _)), omega arith)
 
 pub loop-i-preserved : goal.loop-i-preserved
 loop-i-preserved c =
     let h = small_product c.args.q (le_of_lt (c.requires.1.residues c.loop-i.i)) (le_of_lt (c.requires.2.residues (c.args.k - c.loop-i.i))) in
-    let t = c.term-acc.ensures in
     let s = sum_more c.loop-i.i (terms c.args.a.c c.args.b.c c.args.k) in
-    let e = c.end_of_terms-end.ensures in
+    let m = c.min-i-end.ensures in
     (omega arith, omega arith, omega arith)
 
 pub returns : goal.returns
 returns c =
-    let e = c.end_of_terms-end.ensures in
+    let m = c.min-i-end.ensures in
     let s = product_end c.requires.1 c.requires.2 c.args.k c.loop-i.i (omega arith) (omega arith) in
     c.reduce.ensures ∙ ap (λ (t : ℕ). t % modulus_of c.args.q) (c.loop-i.invariant.1 ∙ sym s)

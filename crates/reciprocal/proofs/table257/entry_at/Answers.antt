@@ -6,7 +6,8 @@ use mathlib.Core.List.{List}
 use lib.ListN.{get_or, length}
 use lib.Dec.{eqb, ltb, lit<}
 use borrow.Author.Tests.{eqb-true, lt-ltb, ltb-true}
-use Rattle.reciprocal.specs.Reciprocals.{entry_for, table_entry}
+use Rattle.std.specs.Prelude.{unwrap_or}
+use Rattle.reciprocal.specs.Reciprocals.{table_entry}
 use Rattle.reciprocal.proofs.Reciprocals.{reciprocal_is, zero_has_none}
 use Rattle.reciprocal.proofs.Table.{at_entry, every}
 use Rattle.reciprocal.proofs.table257.entry_at.Goals as goal
@@ -18,10 +19,10 @@ fits (suc k) x = ltb x 257 && eqb (x * suc k % 257) 1
 
 fits-is : (k x : ℕ) → fits k x ≡ true → x ≡ table_entry k
 unfolding fits
-fits-is zero x t = eqb-true x 0 t ∙ ap entry_for (zero_has_none 257 0 (lit< tt) refl)
+fits-is zero x t = eqb-true x 0 t ∙ ap (λ o. unwrap_or o 0) (zero_has_none 257 0 (lit< tt) refl)
 fits-is (suc k) x t =
     let parts = (and-eq-true_iff (ltb x 257) (eqb (x * suc k % 257) 1)).0 t in
-    ap entry_for (reciprocal_is 257 (suc k) x (ltb-true x 257 parts.0) (eqb-true (x * suc k % 257) 1 parts.1))
+    ap (λ o. unwrap_or o 0) (reciprocal_is 257 (suc k) x (ltb-true x 257 parts.0) (eqb-true (x * suc k % 257) 1 parts.1))
 
 -- The rule as an equation that asks nothing, so that it fits whatever list the code holds: where the test passes at every entry, the one at k is
 -- the table's.
