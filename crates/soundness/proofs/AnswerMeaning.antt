@@ -22,8 +22,9 @@ use Rattle.poly.proofs.Values.{value_below}
 use Rattle.poly_meaning.proofs.Series.{series_at, series_below, residue-mod, residue-zero, value_means_bounded}
 use Rattle.header.specs.Header.{bounds_of}
 use Rattle.rows.specs.Rows.{job_point, job_value}
+use Rattle.std.specs.Prelude.{Option, Some, None}
 use Rattle.marked_rows.specs.declared.Mark.{Mark}
-use Rattle.marked_rows.specs.declared.Mark.TheVariants.{None, Pole, Silent}
+use Rattle.marked_rows.specs.declared.Mark.TheVariants.{Pole, Silent}
 use Rattle.marked_rows.specs.Marks.{mark_at, speaking, speaks, speaking_count}
 use Rattle.marked_rows.specs.Table.{weight_of, right_side_of, job_points, job_weights, job_values}
 use Rattle.marked_rows.proofs.Entries.{points_at, weights_at, values_at}
@@ -66,10 +67,10 @@ module _ (s : List ℕ) {area : ℕ} (W : WellFormedFacts s area) where
   unfolding job_weights
   weights_below r = by (dec_lt r 32) (dec_lt r (bounds_of s).rows)
     where
-      low : (m : Mark) → weight_of m < 2
+      low : (m : Option Mark) → weight_of m < 2
       low None = omega arith
-      low Pole = omega arith
-      low Silent = omega arith
+      low (Some Pole) = omega arith
+      low (Some Silent) = omega arith
 
       by : Dec (r < 32) → Dec (r < (bounds_of s).rows) → get_or (job_weights s) r 0 < 2
       by (no large) d =
@@ -94,23 +95,23 @@ module _ (s : List ℕ) {area : ℕ} (W : WellFormedFacts s area) where
 
   -- which of them are silent
   module _ (r : ℕ) (lr : r < (bounds_of s).rows) where
-    weight_is : (m : Mark) → mark_at s r ≡ m → (row r).weight ≡ ρ (weight_of m)
+    weight_is : (m : Option Mark) → mark_at s r ≡ m → (row r).weight ≡ ρ (weight_of m)
     weight_is m e = ap ρ (weights_at s r lr ∙ ap weight_of e)
 
-    value_is : (m : Mark) → mark_at s r ≡ m → (i : ℕ) → i < (bounds_of s).outputs → (row r).values i ≡ ρ (right_side_of m (job_value s r i))
+    value_is : (m : Option Mark) → mark_at s r ≡ m → (i : ℕ) → i < (bounds_of s).outputs → (row r).values i ≡ ρ (right_side_of m (job_value s r i))
     value_is m e i li = ap ρ (values_at s r i lr li ∙ ap (λ m. right_side_of m (job_value s r i)) e)
 
-    silent_means : mark_at s r ≡ Silent → SilentRow (F (bounds_of s)) (bounds_of s).outputs (row r)
-    silent_means e = (weight_is Silent e, λ i li. value_is Silent e i li)
+    silent_means : mark_at s r ≡ Some Silent → SilentRow (F (bounds_of s)) (bounds_of s).outputs (row r)
+    silent_means e = (weight_is (Some Silent) e, λ i li. value_is (Some Silent) e i li)
 
     -- a row with one condition that asks nothing is silent
-    silent_if : (i : ℕ) → i < (bounds_of s).outputs → (row r).weight ≡ ρ 0 → (row r).values i ≡ ρ 0 → mark_at s r ≡ Silent
+    silent_if : (i : ℕ) → i < (bounds_of s).outputs → (row r).weight ≡ ρ 0 → (row r).values i ≡ ρ 0 → mark_at s r ≡ Some Silent
     silent_if i li weight value = by (mark_at s r) refl
       where
-        by : (m : Mark) → mark_at s r ≡ m → m ≡ Silent
+        by : (m : Option Mark) → mark_at s r ≡ m → m ≡ Some Silent
         by None e = absurd ((F (bounds_of s)).one≢null (sym (weight_is None e) ∙ weight))
-        by Pole e = absurd ((F (bounds_of s)).one≢null (sym (value_is Pole e i li) ∙ value))
-        by Silent e = refl
+        by (Some Pole) e = absurd ((F (bounds_of s)).one≢null (sym (value_is (Some Pole) e i li) ∙ value))
+        by (Some Silent) e = refl
 
   speaking_means : (L : ℕ) → L ≤ (bounds_of s).rows → speaking_below (F (bounds_of s)) (bounds_of s).outputs row L ≡ count_below L (speaks s)
   unfolding count_below
@@ -120,14 +121,14 @@ module _ (s : List ℕ) {area : ℕ} (W : WellFormedFacts s area) where
       first : 0 < (bounds_of s).outputs
       first = let n = W.fields.outputs_least in omega arith
 
-      loud : {m : Mark} → mark_at s r ≡ m → (m ≡ Silent → ⊥) → SilentRow (F (bounds_of s)) (bounds_of s).outputs (row r) → ⊥
+      loud : {m : Option Mark} → mark_at s r ≡ m → (m ≡ Some Silent → ⊥) → SilentRow (F (bounds_of s)) (bounds_of s).outputs (row r) → ⊥
       loud e other silent = other (sym e ∙ silent_if r l 0 first silent.0 (silent.1 0 first))
 
-      by : (m : Mark) → mark_at s r ≡ m → speaking_below (F (bounds_of s)) (bounds_of s).outputs row r ≡ count_below r (speaks s)
+      by : (m : Option Mark) → mark_at s r ≡ m → speaking_below (F (bounds_of s)) (bounds_of s).outputs row r ≡ count_below r (speaks s)
           → speaking_below (F (bounds_of s)) (bounds_of s).outputs row (suc r) ≡ count_below r (speaks s) + one_if (speaking m)
       by None e same = let more = speaking_below-speaks (F (bounds_of s)) (bounds_of s).outputs row r (loud e (λ h. clash cc)) in omega arith
-      by Pole e same = let more = speaking_below-speaks (F (bounds_of s)) (bounds_of s).outputs row r (loud e (λ h. clash cc)) in omega arith
-      by Silent e same = let more = speaking_below-silent (F (bounds_of s)) (bounds_of s).outputs row r (silent_means r l e) in omega arith
+      by (Some Pole) e same = let more = speaking_below-speaks (F (bounds_of s)) (bounds_of s).outputs row r (loud e (λ h. clash cc)) in omega arith
+      by (Some Silent) e same = let more = speaking_below-silent (F (bounds_of s)) (bounds_of s).outputs row r (silent_means r l e) in omega arith
 
   pub usable : Usable (bounds_of s) (speaking_count s) (job_points s) (job_weights s) (job_values s)
   unfolding speaking_count
