@@ -1,7 +1,5 @@
 -- A refusal names no margin, and any other call asks for it.
-use mathlib.Core.List.{List}
 use native.Mathlib.Omega.{arith}
-use Prim.Native.Nat.{ℕ}
 use Rattle.std.proofs.lemmas.Result.{err_from_is_err_and}
 use Rattle.margin.proofs.Claim.{recovered-margin, refused_margin}
 use Rattle.margin.proofs.recovered.recover_with_margin.Goals as goal
