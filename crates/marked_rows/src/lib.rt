@@ -112,7 +112,11 @@ pub fn read_table(job: &[u8], start: usize, rows: usize, outputs: usize, marks: 
         let at = r * 4;
         points[r] = row.point;
         weights[r] = row.weight;
-        values[at..at + 4].copy_from_slice(&v);
+        // Kept: `copy_from_slice` puts the row into memory first, and asks whether the two overlap.
+        values[at] = v[0];
+        values[at + 1] = v[1];
+        values[at + 2] = v[2];
+        values[at + 3] = v[3];
         speaking += row.speaking;
     }
     Table {

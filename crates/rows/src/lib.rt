@@ -7,7 +7,6 @@ ghost use Rattle.header.specs.Header.{header_length_of, bounds_of};
 ghost use Rattle.rows.specs.Steps.{row_of, row_at};
 
 use read_u64::{part, read_u64};
-use std::array;
 
 #[derive(Clone, Copy)]
 pub struct Row {
@@ -53,16 +52,12 @@ fn read_short_row(bytes: &[u8], outputs: usize) -> Row
     requires { (outputs < 3) × (length bytes.now ≡ 2 * (1 + outputs)) }
     ensures { result ≡ row_of bytes.now outputs }
 {
-    Row {
-        point: number_from(bytes, 0),
-        values: array::from_fn(|i| {
-            if i < outputs {
-                number_from(bytes, 2 * (1 + i))
-            } else {
-                0
-            }
-        }),
+    let point = number_from(bytes, 0);
+    let mut values = [0; 4];
+    for i in 0..outputs {
+        values[i] = number_from(bytes, 2 * (1 + i));
     }
+    Row { point, values }
 }
 
 // A row from its own bytes.

@@ -15,7 +15,7 @@ use Rattle.rows.specs.Steps.{row_at}
 use Rattle.marked_rows.specs.declared.RowConditions.{RowConditions}
 use Rattle.marked_rows.specs.Marks.{mark_at, speaks, speaking_count}
 use Rattle.marked_rows.specs.Table.{conditions_by, job_points, job_weights, job_values}
-use Rattle.marked_rows.proofs.Filling.{filled_part}
+use Rattle.marked_rows.proofs.Filling.{fill_four}
 use Rattle.marked_rows.proofs.Entries.{conditions-read, conditions_point, conditions_weight, conditions-speaking, conditions-values}
 use Rattle.marked_rows.proofs.read_table.Goals as goal
 
@@ -44,8 +44,7 @@ loop-r-preserved c =
       omega arith,
       filled_more inv.1 _ (omega arith) (ap (λ (x : RowConditions). x.point) row ∙ conditions_point mark (row_at s r) ∙ point s r),
       filled_more inv.2 _ (omega arith) (ap (λ (x : RowConditions). x.weight) row ∙ conditions_weight mark (row_at s r)),
-      rw (← next) (filled_part inv.3 _ 4 (search rules) (omega arith) (λ i l.
-          ap (λ (v : List ℕ). get_or v i 0) c.copy_from_slice.ensures.after ∙ ap (λ (x : RowConditions). get_or x.values i 0) row ∙ conditions-values s r i l)),
+      rw (← next) (fill_four inv.3 c.row_conditions-row.result.values (omega arith) (λ i l. ap (λ (x : RowConditions). get_or x.values i 0) row ∙ conditions-values s r i l)),
       (counted s r inv.4 row).0,
     )
 
