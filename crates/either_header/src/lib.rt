@@ -14,6 +14,7 @@ pub struct HeaderRecoveries {
 }
 
 // Recovers a job with the short header and one with the longer header, each by a call of its own.
+// Kept beside enlargement::recover_both, whose body is the same: each of the two carries a claim of its own.
 pub fn recover_either(
     short: &[u8],
     area: &mut [u8],
