@@ -8,7 +8,7 @@ use lib.ListN.{length, take, drop}
 use lib.Seq.{take_at}
 use Rattle.format.specs.Bounds.{answer_length_of}
 use Rattle.format.specs.declared.Report.{Report}
-use Rattle.format.specs.Outcomes.{report_of}
+use Rattle.format.specs.Outcomes.{check_report_of}
 use Rattle.header.specs.Header.{bounds_of}
 use Rattle.job.proofs.Facts.{well_formed_facts}
 use Rattle.job.proofs.Forms.{form-refused, form_accepted}
@@ -58,7 +58,7 @@ module _ (s a : List ℕ) {j : JudgementReport} (J : Judged s a j) (area : List 
           let e = ap (λ t. t.refusal) early.report in
           let same = form-refused s (length area) (omega arith) (λ seven. not-7 (e ∙ seven)) in
           judged_unique s a J (settle_malformed s a (λ wf. early.malformed (same ∙ wf)))
-          ∙ ap (λ t. unjudged_report t.refusal t.row) (sym (early.report ∙ ap report_of same))
+          ∙ ap (λ t. unjudged_report t.refusal t.row) (sym (early.report ∙ ap check_report_of same))
 
   pub judged_recovery : JudgedRecovery s area r after a j
   judged_recovery = record {

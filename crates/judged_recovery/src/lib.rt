@@ -5,14 +5,13 @@ ghost use Rattle.format.specs.Outcomes.{report_of};
 ghost use Rattle.offered_answer.specs.Judgements.{judgement_report_of};
 ghost use Rattle.judged_recovery.specs.JudgedRecovery.{JudgedRecovery};
 
-use format::Outcome;
-use offered_answer::Judgement;
+use format::{Recovered, Refusal};
 
 // What two calls returned.
-#[derive(Clone, Copy)]
+#[derive(Clone, Copy, Debug, PartialEq, Eq)]
 pub struct RecoveryAndJudgement {
-    pub recovery: Outcome,
-    pub judgement: Judgement,
+    pub recovery: Result<Recovered, Refusal>,
+    pub judgement: Result<bool, Refusal>,
 }
 
 // Recovers a job into the area, and judges an answer that is offered for it.
@@ -22,7 +21,7 @@ pub fn recover_and_judge(job: &[u8], area: &mut [u8], offered: &[u8]) -> Recover
     let recovery = recovery::recover(job, area);
     let judgement = offered_answer::judge(job, offered);
     RecoveryAndJudgement {
-        recovery: recovery,
-        judgement: judgement,
+        recovery,
+        judgement,
     }
 }

@@ -10,10 +10,9 @@ use lib.Seq.{take_at}
 use Rattle.format.specs.Bounds.{prime_of, answer_length_of}
 use Rattle.format.specs.declared.Bounds.{Bounds}
 use Rattle.format.specs.declared.Reason.TheVariants.{TooShort}
-use Rattle.format.specs.declared.Outcome.TheVariants.{Refused}
 use Rattle.format.specs.declared.Report.{Report}
 use Rattle.format.specs.declared.WritingReport.{WritingReport}
-use Rattle.format.specs.Outcomes.{report_of, refused_report, recovered_report}
+use Rattle.format.specs.Outcomes.{check_report_of, refused, refused_report, recovered_report}
 use Rattle.header.specs.declared.Header.{Header}
 use Rattle.header.specs.Header.{header_length_of, bounds_of, header_of, job_length_of, rows_needed_of}
 use Rattle.header_rules.specs.Rules.{breaks_rule}
@@ -119,11 +118,11 @@ module _ (h c : List ℕ) (start w : ℕ) (F : TrialFacts h c w) (R : TrialReduc
 empty-refused : (area : List ℕ) {r : Report} {after : List ℕ} → Settled [] area r after → (r ≡ refused_report 1 0) × (after ≡ area)
 empty-refused area {r} {after} S = by S.cases
   where
-    short : outcome_of [] (length area) ≡ Refused TooShort 0
+    short : outcome_of [] (length area) ≡ refused TooShort 0
     short = at_1 [] (length area) (lt-ltb 0 (header_length_of []) (omega arith))
 
     by : RefusedEarly [] area r after ⊎ (Answered [] area r after ⊎ RefusedUnsolvable [] area r after) → (r ≡ refused_report 1 0) × (after ≡ area)
-    by (inl early) = (early.report ∙ ap report_of short, early.untouched)
+    by (inl early) = (early.report ∙ ap check_report_of short, early.untouched)
     by (inr (inl A)) = absurd (refused_not_accepted (sym short ∙ A.well_formed))
     by (inr (inr none)) = absurd (refused_not_accepted (sym short ∙ none.well_formed))
 
@@ -136,7 +135,7 @@ module _ (h c : List ℕ) (start w : ℕ) (jobArea : List ℕ) {r : WritingRepor
       ∙ take_at (trial_job h c start w) (drop (length (trial_job h c start w)) jobArea) (job_length_of (header_of h)) (job-length h c start w F)
 
   none_written : RefusedTrial jobArea r jobAfter → take r.written jobAfter ≡ []
-  none_written refused = ap (λ t. take t.written jobAfter) refused.report
+  none_written R = ap (λ t. take t.written jobAfter) R.report
 
   -- no more bytes than the area has
   pub written_fits : r.written ≤ length jobArea
@@ -144,7 +143,7 @@ module _ (h c : List ℕ) (start w : ℕ) (jobArea : List ℕ) {r : WritingRepor
     where
       by : Wrote h c start w jobArea r jobAfter ⊎ RefusedTrial jobArea r jobAfter → r.written ≤ length jobArea
       by (inl W) = let e = ap (λ t. t.written) W.report in omega (arith, W.enough)
-      by (inr refused) = let e = ap (λ t. t.written) refused.report in omega arith
+      by (inr R) = let e = ap (λ t. t.written) R.report in omega arith
 
   pub trial-recovered : Bytes c → (area : List ℕ) {r' : Report} {after : List ℕ} → Settled (take r.written jobAfter) area r' after
       → TrialRecovered h c start w jobArea r jobAfter area r' after
@@ -152,9 +151,9 @@ module _ (h c : List ℕ) (start w : ℕ) (jobArea : List ℕ) {r : WritingRepor
     first = T;
     second = S;
     refused = λ nonzero.
-        let refused = refused_otherwise h c start w jobArea T nonzero in
-        let none = empty-refused area (subst (λ t. Settled t area r' after) (none_written refused) S) in
-        (refused.untouched, none.0, none.1);
+        let R = refused_otherwise h c start w jobArea T nonzero in
+        let none = empty-refused area (subst (λ t. Settled t area r' after) (none_written R) S) in
+        (R.untouched, none.0, none.1);
     recovered = λ zero enough few.
         let W = wrote_if_not_refused h c start w jobArea T zero in
         given_back h c start w (trial_facts h c w W.passes) W.reduced bytes area (subst (λ t. Settled t area r' after) (written_bytes W) S) enough few;

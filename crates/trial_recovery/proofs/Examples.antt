@@ -7,7 +7,7 @@ use Rattle.lists.specs.Tabulated.{tabulate}
 use Rattle.field.proofs.Moduli.{modulus_prime}
 use Rattle.field.specs.declared.Prime.TheVariants.{P7}
 use Rattle.format.specs.Bounds.{largest_bound, numerator_count, answer_length_of}
-use Rattle.format.specs.declared.Outcome.TheVariants.{Accepted}
+use Rattle.std.specs.Prelude.{Ok}
 use Rattle.format.specs.Outcomes.{recovered_report, written_report}
 use Rattle.cursor.specs.Bits.{field_of}
 use Rattle.header.specs.Header.{outputs_of, df_of, spare_bit_of, numerator_bounds_of, flags_of, bounds_of, header_of, job_length_of}
@@ -56,7 +56,7 @@ each_refusal = record {
   short_area = refl;
 }
 
-page_passes : outcome_before10 header coefficients 2 Accepted ≡ Accepted
+page_passes : outcome_before10 header coefficients 2 (Ok tt) ≡ Ok tt
 unfolding outcome_before10 lengths_outcome numbers_outcome tabulate largest_bound numerator_count field_of outputs_of df_of spare_bit_of numerator_bounds_of flags_of bounds_of first_below
 page_passes = refl
 

@@ -16,7 +16,7 @@ use Rattle.header.specs.Header.{header_length_of, bounds_of, header_of, job_leng
 use Rattle.header.proofs.Appended.{header-append}
 use Rattle.header.proofs.Fields.{fits_fields}
 use Rattle.rows.specs.Rows.{number_at}
-use Rattle.marked_rows.specs.declared.Mark.TheVariants.{None}
+use Rattle.std.specs.Prelude.{None}
 use Rattle.marked_rows.specs.Marks.{mark_at, speaking, speaks, speaking_count}
 use Rattle.marked_rows.proofs.Marks.{unmarked_if_small}
 use Rattle.lists.specs.Counting.{count_below}

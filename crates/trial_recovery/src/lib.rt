@@ -1,27 +1,16 @@
 // Paper 02, item 1, over two calls: a trial job is written and recovered.
 #![tactic(auto)]
 
-ghost use Rattle.std.specs.Prelude.{◌≡◌};
 ghost use Rattle.format.specs.Outcomes.{report_of, writing_report_of};
 ghost use Rattle.trial_recovery.specs.TrialRecovery.{TrialRecovered};
 
-use format::{Outcome, Writing};
+use format::{Recovered, Refusal};
 
 // What two calls returned.
-#[derive(Clone, Copy)]
+#[derive(Clone, Copy, Debug, PartialEq, Eq)]
 pub struct TrialAndRecovery {
-    pub writing: Writing,
-    pub recovery: Outcome,
-}
-
-// How many bytes a call wrote.
-fn bytes_written(writing: Writing) -> usize
-    ensures { result ≡ (writing_report_of writing).written }
-{
-    match writing {
-        Writing::Written { bytes } => bytes as usize,
-        Writing::Refused { reason, row } => 0,
-    }
+    pub writing: Result<u32, Refusal>,
+    pub recovery: Result<Recovered, Refusal>,
 }
 
 // Writes a trial job and recovers it from the bytes just written; from none, where no job was written.
@@ -37,10 +26,7 @@ pub fn write_and_recover(
         area.old (report_of result.recovery) area.new }
 {
     let writing = trial::trial(header, coefficients, start, spoiled, job_area);
-    let end = bytes_written(writing);
-    let recovery = recovery::recover(&job_area[0..end], area);
-    TrialAndRecovery {
-        writing: writing,
-        recovery: recovery,
-    }
+    let end = writing.unwrap_or(0) as usize;
+    let recovery = recovery::recover(&job_area[..end], area);
+    TrialAndRecovery { writing, recovery }
 }
