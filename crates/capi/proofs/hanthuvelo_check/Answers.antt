@@ -3,4 +3,4 @@ use Rattle.form_check.specs.Reports.{form_report_of}
 use Rattle.capi.proofs.hanthuvelo_check.Goals as goal
 
 pub returns : goal.returns
-returns c = c.reported.ensures ∙ ap form_report_of c.check-outcome.ensures
+returns c = c.from.ensures ∙ ap form_report_of c.check-check.ensures

@@ -6,4 +6,4 @@ pub returns : goal.returns
 returns c =
     let j = c.judge-judgement in
     let s = c.args in
-    subst (Judged s.job.now s.answer.now) (sym c.reported.ensures) j.ensures
+    subst (Judged s.job.now s.answer.now) (sym c.from.ensures) j.ensures

@@ -3,4 +3,4 @@ use Rattle.reciprocal.specs.Reports.{reciprocal_report_of}
 use Rattle.capi.proofs.hanthuvelo_reciprocal.Goals as goal
 
 pub returns : goal.returns
-returns c = c.reported.ensures ∙ ap reciprocal_report_of c.coded_reciprocal-answer.ensures
+returns c = c.from.ensures ∙ ap reciprocal_report_of c.coded_reciprocal-answer.ensures

@@ -4,6 +4,6 @@ use Rattle.capi.proofs.hanthuvelo_recover.Goals as goal
 
 pub returns : goal.returns
 returns c =
-    let r = c.recover-outcome in
+    let r = c.recover-recovery in
     let s = c.args in
-    subst (λ t. Settled s.job.now s.area.now t r.new.area) (sym c.reported.ensures) r.ensures
+    subst (λ t. Settled s.job.now s.area.now t r.new.area) (sym c.from.ensures) r.ensures

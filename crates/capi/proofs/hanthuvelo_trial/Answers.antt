@@ -6,4 +6,4 @@ pub returns : goal.returns
 returns c =
     let r = c.trial-writing in
     let s = c.args in
-    subst (λ t. Trial s.header.now s.coefficients.now s.start s.spoiled s.area.now t r.new.area) (sym c.writing_reported.ensures) r.ensures
+    subst (λ t. Trial s.header.now s.coefficients.now s.start s.spoiled s.area.now t r.new.area) (sym c.from.ensures) r.ensures
