@@ -1,7 +1,7 @@
 -- Test 5 on rows as they are read, and by their marks.
 use mathlib.Core.Bool.{Bool, true, false, ◌&&◌, ◌||◌}
 use mathlib.Core.List.{List}
-use mathlib.Core.Path.{◌≡◌, refl, ap, ap₂, ◌∙◌}
+use mathlib.Core.Path.{◌≡◌, refl, sym, ap, ap₂, ◌∙◌}
 use Prim.Native.Nat.{ℕ, ◌<◌, ◌≤◌}
 use native.Mathlib.Omega.{arith}
 use borrow.Author.Tests.{leb-false, lt-leb, lt-ltb, le-ltb}
@@ -10,7 +10,7 @@ use lib.ListN.{get_or}
 use Rattle.field.specs.Primes.{modulus_of}
 use Rattle.field.proofs.Moduli.{modulus_prime, modulus_positive}
 use Rattle.header.specs.declared.Header.{Header}
-use Rattle.header.specs.Header.{header_of, marks_allowed, bounds_of}
+use Rattle.header.specs.Header.{header_of, flags_of, marks_allowed, bounds_of}
 use Rattle.header.proofs.Fields.{fits_fields}
 use Rattle.job.specs.Refusals.{out_of_range}
 use Rattle.job.proofs.ArrayTests.{values_in_table}
@@ -79,6 +79,16 @@ module _ (s : List ℕ) (r : ℕ) where
       (ap is_found (first_cong 4 _ _ (λ i l. ap (leb p) (conditions-value m (row_at s r) i l)))
       ∙ values_in_table m p 4 (λ i. get_or (row_at s r).values i 0) (modulus_prime (bounds_of s).prime).two
       ∙ ap (λ b. is_unmarked m && b) values)
+
+-- where marks are not allowed
+module _ (s : List ℕ) (without : marks_allowed (flags_of s) ≡ false) where
+  unmarked : (r : ℕ) → mark_at s r ≡ None
+  unmarked r = unmarked_if_not_allowed _ _ (job_value s r) without
+
+  -- a row as it is read
+  pub row_test : (r : ℕ) {q : ℕ} {row : Row} → q ≡ modulus_of (bounds_of s).prime → row ≡ row_at s r
+      → (leb q row.point || any_below 4 (λ i. leb q (get_or row.values i 0))) ≡ out_of_range s r
+  row_test r {row = row} modulus read = settled_test s r {row = conditions_by None row} modulus (ap₂ conditions_by (sym (unmarked r)) read)
 
 -- what a pass makes of row r that it has read: whether test 5 refuses it, and how many rows it adds to those that speak
 module _ (s : List ℕ) (r : ℕ) where
