@@ -5,16 +5,17 @@ use Rattle.print.proofs.recovered_text.Goals as goal
 
 pub unwrap-requires : goal.unwrap-requires
 unwrap-requires c =
-    let found = c.recover_with_margin-measured in
+    let parts = c.parts.result in
     let told = c.write_text-written.ensures in
-    let whole = always_written c.args.bytes.now found.new.area c.args.buffer.now c.write_text-written.new.buffer found.result.recovery
-    c.text_bounds-bounds.result found.result.margin c.write_text-written.result c.text_bounds-bounds.ensures c.requires told.0 told.1 told.2 in
+    let whole = always_written c.args.bytes.now c.recover_with_margin-measured.new.area c.args.buffer.now c.write_text-written.new.buffer parts.0
+    c.text_bounds-bounds.result parts.1 c.write_text-written.result c.text_bounds-bounds.ensures c.requires told.0 told.1 told.2 in
     ap is_ok whole
 
 pub returns : goal.returns
 returns c =
-    let found = c.recover_with_margin-measured in
+    let parts = c.parts.result in
     let told = c.write_text-written.ensures in
-    printed c.args.bytes.now found.new.area c.args.buffer.now c.write_text-written.new.buffer found.result.recovery
-    c.text_bounds-bounds.result found.result.margin c.write_text-written.result c.text_bounds-bounds.ensures c.requires told.0 told.1 told.2
-    found.ensures c.unwrap.result c.unwrap.ensures
+    let found = rw (c.parts.ensures.report, c.parts.ensures.margin) c.recover_with_margin-measured.ensures in
+    printed c.args.bytes.now c.recover_with_margin-measured.new.area c.args.buffer.now c.write_text-written.new.buffer parts.0
+    c.text_bounds-bounds.result parts.1 c.write_text-written.result c.text_bounds-bounds.ensures c.requires told.0 told.1 told.2
+    found c.unwrap.result c.unwrap.ensures
