@@ -112,7 +112,7 @@ POINTS = {
     "1": [
         ("enums", lambda: lines_that(r"\benum \w+ \{")),
         ("a flag, an outcome or a search's result beside other fields", lambda: lines_that(r"^\s*(pub )?\w+: (bool|Outcome|Found),$")),
-        ("numbers for kinds or refusals", lambda: lines_that(r"\b(refusal|code|prime_code|flags|exists|yes): u32\b")),
+        ("numbers for kinds or refusals", lambda: lines_that(r"\b(refusal|code|prime_code|flags|exists|yes): u32\b(?!::)")),
         ("enums and structs without comparisons", lambda: lines_that(r"derive\(Clone, Copy\)")),
     ],
     "2": [("functions whose bodies are the same but for names, numbers and a seventh of the words", twins)],
