@@ -28,17 +28,13 @@ fn polynomial(bytes: &[u8], from: usize, count: usize) -> Poly
     a
 }
 
-// All of g and the f's; nothing where a coefficient is p or more.
-pub fn read_vector(bytes: &[u8], b: Bounds) -> Option<Vector>
+// All of g and the f's.
+pub fn read_vector(bytes: &[u8], b: Bounds) -> Vector
     requires { FitsPolynomials b × (length bytes.now ≡ coefficient_length_of b) }
-    ensures denominator { IfSome result (λ v. v.g.c ≡ denominator_of b bytes.now) }
-    ensures numerators { IfSome result (λ v. (i : ℕ) → i < b.outputs → coefficients_at v.f i ≡ numerator_of b bytes.now i) }
-    ensures others { IfSome result (λ v. (i : ℕ) → b.outputs ≤ i → i < 4 → coefficients_at v.f i ≡ replicate 32 0) }
-    ensures range { is_none result ≡ any_too_large b bytes.now }
+    ensures denominator { result.g.c ≡ denominator_of b bytes.now }
+    ensures numerators { (i : ℕ) → i < b.outputs → coefficients_at result.f i ≡ numerator_of b bytes.now i }
+    ensures others { (i : ℕ) → b.outputs ≤ i → i < 4 → coefficients_at result.f i ≡ replicate 32 0 }
 {
-    if any_too_large(bytes, b) {
-        return None;
-    }
     let front = b.dg + 1;
     let g = polynomial(bytes, 0, front);
     let mut f = [poly::zero(); 4];
@@ -48,5 +44,19 @@ pub fn read_vector(bytes: &[u8], b: Bounds) -> Option<Vector>
         f[i] = polynomial(bytes, from, count);
         from += 2 * count;
     }
-    Some(Vector { g, f })
+    Vector { g, f }
+}
+
+// The same, and nothing where a coefficient is p or more.
+pub fn checked_vector(bytes: &[u8], b: Bounds) -> Option<Vector>
+    requires { FitsPolynomials b × (length bytes.now ≡ coefficient_length_of b) }
+    ensures denominator { IfSome result (λ v. v.g.c ≡ denominator_of b bytes.now) }
+    ensures numerators { IfSome result (λ v. (i : ℕ) → i < b.outputs → coefficients_at v.f i ≡ numerator_of b bytes.now i) }
+    ensures others { IfSome result (λ v. (i : ℕ) → b.outputs ≤ i → i < 4 → coefficients_at v.f i ≡ replicate 32 0) }
+    ensures range { is_none result ≡ any_too_large b bytes.now }
+{
+    if any_too_large(bytes, b) {
+        return None;
+    }
+    Some(read_vector(bytes, b))
 }

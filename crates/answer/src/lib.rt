@@ -9,7 +9,7 @@ ghost use Rattle.poly.specs.Vectors.{coefficients_at};
 ghost use Rattle.answer.specs.Bytes.{two_bytes, four_bytes, coefficient_bytes, output_bytes, answer_bytes};
 ghost use Rattle.lists.specs.Overwriting.{overwritten, spliced};
 
-pub use coefficients::read_vector;
+pub use coefficients::{checked_vector, read_vector};
 use format::Bounds;
 use poly::{Poly, Vector};
 

@@ -1,5 +1,5 @@
 -- The margin of an answer, and the claim about the two calls, from what each of them settles.
-use mathlib.Core.Path.{◌≡◌, refl, sym, ap, subst, ◌∙◌}
+use mathlib.Core.Path.{◌≡◌, sym, ap, subst, ◌∙◌}
 use mathlib.Core.Logic.{inl, inr}
 use mathlib.Core.List.{List}
 use Prim.Native.Nat.{ℕ, ◌+◌, ◌*◌, ◌≤◌, ◌<◌}
@@ -7,9 +7,6 @@ use native.Mathlib.Omega.{arith}
 use lib.ListN.{length}
 use Rattle.format.specs.Bounds.{prime_of}
 use Rattle.format.specs.declared.Report.{Report}
-use Rattle.format.specs.declared.Refusal.{Refusal}
-use Rattle.format.specs.Outcomes.{refusal_report}
-use Rattle.format.proofs.Numbers.{number_positive}
 use Rattle.header.specs.Header.{df_of, bounds_of}
 use Rattle.marked_rows.specs.Marks.{speaking_count}
 use Rattle.job.specs.Refusals.{WellFormed}
@@ -63,7 +60,3 @@ module _
 
   pub recovered-margin : (0 < r.refusal → m ≡ 0) → RecoveredMargin s area r after m
   recovered-margin none = record { first = S; second = M; recovered = recovered; refused = none }
-
--- and of a call that is refused, which names no margin
-pub refused_margin : (s area : List ℕ) (e : Refusal) {after : List ℕ} → Settled s area (refusal_report e) after → RecoveredMargin s area (refusal_report e) after 0
-refused_margin s area e S = recovered-margin s area S (λ zero. absurd (omega (arith, number_positive e.reason, zero))) (λ positive. refl)

@@ -1,4 +1,3 @@
 pub mod Margin
 pub mod Others
 pub mod RecoveredMargin
-pub mod Measured

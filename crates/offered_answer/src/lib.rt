@@ -8,7 +8,7 @@ ghost use Rattle.problem.specs.Answers.{Within};
 ghost use Rattle.offered_answer.specs.Judgements.{judgement_report_of, Judged};
 ghost use Rattle.offered_answer.specs.Tests.{RowsAgree, Passes};
 
-use answer::read_vector;
+use answer::checked_vector;
 use format::{Bounds, LONGEST_ANSWER, Reason, Refusal};
 use marked_rows::Table;
 use poly::Vector;
@@ -59,7 +59,7 @@ fn passes(b: Bounds, table: &Table, offered: &[u8]) -> bool
     requires { (b.rows ≤ 32) × FitsPolynomials b × (length offered.now ≡ answer_length_of b) }
     ensures { (result ≡ true) ↔ Passes b table.now.points table.now.weights table.now.values offered.now }
 {
-    let Some(v) = read_vector(&offered[4..], b) else {
+    let Some(v) = checked_vector(&offered[4..], b) else {
         return false;
     };
     rows_agree(b, table, &v, word_from(offered)) && is_reduced(b.prime, b.outputs, &v)

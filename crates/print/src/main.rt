@@ -2,14 +2,11 @@
 #![tactic(auto)]
 
 ghost use Rattle.std.specs.Prelude.{◌≤◌, ◌≡◌, length};
-ghost use Rattle.format.specs.Outcomes.{report_of};
 ghost use Rattle.job.specs.ParsedJob.{parsed_job_of};
-ghost use Rattle.margin.specs.Measured.{measured_report_of, margin_in};
 ghost use Rattle.print.specs.Printed.{text_bounds_of, Printed};
 
 use field::Prime;
-use format::{Bounds, LONGEST_ANSWER, Recovered, Refusal};
-use margin::Measured;
+use format::{Bounds, LONGEST_ANSWER};
 use std::io;
 use std::io::{Read, Write};
 
@@ -32,17 +29,6 @@ fn text_bounds(bytes: &[u8]) -> Bounds
     }
 }
 
-// A recovery, and the margin of its answer, 0 where there is none.
-fn parts(measured: Result<Measured, Refusal>) -> (Result<Recovered, Refusal>, u32)
-    ensures report { report_of result.0 ≡ measured_report_of measured }
-    ensures margin { result.1 ≡ margin_in measured }
-{
-    match measured {
-        Ok(Measured { recovered, margin }) => (Ok(recovered), margin),
-        Err(refusal) => (Err(refusal), 0),
-    }
-}
-
 // Recovers a job into an area that no answer exceeds, and writes the text of what came out to the buffer's start; returns the text's length.
 fn recovered_text(bytes: &[u8], buffer: &mut [u8]) -> usize
     requires { 1280 ≤ length buffer.old }
@@ -50,9 +36,10 @@ fn recovered_text(bytes: &[u8], buffer: &mut [u8]) -> usize
 {
     let mut area = [0u8; LONGEST_ANSWER];
     let measured = margin::recover_with_margin(bytes, &mut area);
-    let (recovery, margin) = parts(measured);
     let bounds = text_bounds(bytes);
-    let written = text::write_text(bounds, Some(recovery), margin, &area, buffer);
+    let recovery = Some(measured.recovery);
+    let margin = measured.margin;
+    let written = text::write_text(bounds, recovery, margin, &area, buffer);
     written.unwrap()
 }
 

@@ -15,7 +15,7 @@ ghost use Rattle.spoiling.specs.Spoiling.{added_by};
 ghost use Rattle.trial.specs.Refusals.{outcome_before10};
 ghost use Rattle.trial.specs.Trial.{job_bytes, Trial};
 
-use answer::read_vector;
+use answer::checked_vector;
 use format::{Bounds, Reason, Refusal};
 use header::{Header, job_length, read_header, rows_needed};
 use header_rules::check_rules;
@@ -42,7 +42,7 @@ fn check(header: &[u8], read: Header, coefficients: &[u8], spoiled: u32) -> Resu
     if (field::modulus(b.prime) as usize) < b.rows || b.rows < spoiled as usize {
         return Err(Reason::TooManyRows.into());
     }
-    read_vector(coefficients, b).ok_or(Refusal::from(Reason::OutOfRange))
+    checked_vector(coefficients, b).ok_or(Refusal::from(Reason::OutOfRange))
 }
 
 // Writes the job of a vector and returns how many bytes it wrote.

@@ -1,6 +1,5 @@
 use Prim.Native.Nat.{ℕ, ◌+◌, ◌-◌, ◌*◌, ◌≤◌, ◌<◌}
 use mathlib.Core.Path.{◌≡◌}
-use borrow.Author.Rules.{rules}
 use native.Mathlib.Numerals.{add-one}
 use native.Mathlib.Omega.{arith}
 use Rattle.format.specs.declared.Bounds.{Bounds}
@@ -51,5 +50,4 @@ returns c =
       denominator = c.polynomial-g.ensures;
       numerators = λ i l. c.loop-i.invariant.1.done i (omega arith);
       others = λ i l. c.loop-i.invariant.1.rest i (omega arith);
-      range = search rules;
     }
