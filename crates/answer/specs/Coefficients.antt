@@ -1,10 +1,11 @@
 -- Paper 02, item 1: "the coefficients of g and f as a recovered sheet lists them after its word". s holds the bytes of all coefficients, and no word.
-use Rattle.std.specs.Prelude.{ℕ, ◌+◌, ◌-◌, ◌*◌, ◌/◌, Bool, cond, List, ltb, leb, length}
+use Rattle.std.specs.Prelude.{ℕ, ◌+◌, ◌-◌, ◌*◌, ◌/◌, Bool, cond, List, ltb, leb, length, Result, Ok, Err}
 use Rattle.lists.specs.Tabulated.{tabulate}
 use Rattle.format.specs.declared.Bounds.{Bounds}
 use Rattle.format.specs.Bounds.{prime_of, numerator_bound_of, answer_length_of}
 use Rattle.format.specs.Numbers.{number_from}
 use Rattle.lists.specs.Search.{any_below}
+use Rattle.poly.specs.declared.Vector.{Vector}
 use Rattle.answer.specs.Bytes.{numerator_start}
 
 -- how many bytes they take: an answer's less the word's four, so 2 ((dg + 1) + the sum of each output's bound plus 1)
@@ -26,3 +27,8 @@ numerator_of b s i = polynomial_from s (numerator_start b i - 4) (numerator_boun
 -- one of the coefficients is p or more
 abbrev pub any_too_large : Bounds → List ℕ → Bool
 any_too_large b s = any_below (length s / 2) (λ k. leb (prime_of b) (number_from s (2 * k)))
+
+-- the vector that is read, in either case
+abbrev pub vector_in : Result Vector Vector → Vector
+vector_in (Ok v) = v
+vector_in (Err v) = v

@@ -1,8 +1,8 @@
 // Paper 02, item 1: the coefficients of g and the f's, read as an answer lists them behind its word.
-ghost use Rattle.std.specs.Prelude.{ℕ, ◌+◌, ◌*◌, ◌≤◌, ◌<◌, ◌≡◌, length, replicate, is_none, IfSome};
+ghost use Rattle.std.specs.Prelude.{ℕ, ◌+◌, ◌*◌, ◌≤◌, ◌<◌, ◌≡◌, length, replicate, is_err, is_none, IfSome};
 ghost use Rattle.format.specs.Bounds.{FitsPolynomials};
 ghost use Rattle.poly.specs.Vectors.{coefficients_at};
-ghost use Rattle.answer.specs.Coefficients.{coefficient_length_of, polynomial_from, denominator_of, numerator_of, any_too_large};
+ghost use Rattle.answer.specs.Coefficients.{coefficient_length_of, polynomial_from, denominator_of, numerator_of, any_too_large, vector_in};
 
 use format::Bounds;
 use poly::{Poly, Vector};
@@ -28,8 +28,8 @@ fn polynomial(bytes: &[u8], from: usize, count: usize) -> Poly
     a
 }
 
-// All of g and the f's.
-pub fn read_vector(bytes: &[u8], b: Bounds) -> Vector
+// All of g and the f's, whatever the coefficients are.
+fn vector(bytes: &[u8], b: Bounds) -> Vector
     requires { FitsPolynomials b × (length bytes.now ≡ coefficient_length_of b) }
     ensures denominator { result.g.c ≡ denominator_of b bytes.now }
     ensures numerators { (i : ℕ) → i < b.outputs → coefficients_at result.f i ≡ numerator_of b bytes.now i }
@@ -47,6 +47,22 @@ pub fn read_vector(bytes: &[u8], b: Bounds) -> Vector
     Vector { g, f }
 }
 
+// All of g and the f's: `Ok` where every coefficient is below p, and the same vector as `Err` where one is not.
+pub fn read_vector(bytes: &[u8], b: Bounds) -> Result<Vector, Vector>
+    requires { FitsPolynomials b × (length bytes.now ≡ coefficient_length_of b) }
+    ensures denominator { (vector_in result).g.c ≡ denominator_of b bytes.now }
+    ensures numerators { (i : ℕ) → i < b.outputs → coefficients_at (vector_in result).f i ≡ numerator_of b bytes.now i }
+    ensures others { (i : ℕ) → b.outputs ≤ i → i < 4 → coefficients_at (vector_in result).f i ≡ replicate 32 0 }
+    ensures range { is_err result ≡ any_too_large b bytes.now }
+{
+    let v = vector(bytes, b);
+    if any_too_large(bytes, b) {
+        Err(v)
+    } else {
+        Ok(v)
+    }
+}
+
 // The same, and nothing where a coefficient is p or more.
 pub fn checked_vector(bytes: &[u8], b: Bounds) -> Option<Vector>
     requires { FitsPolynomials b × (length bytes.now ≡ coefficient_length_of b) }
@@ -55,8 +71,5 @@ pub fn checked_vector(bytes: &[u8], b: Bounds) -> Option<Vector>
     ensures others { IfSome result (λ v. (i : ℕ) → b.outputs ≤ i → i < 4 → coefficients_at v.f i ≡ replicate 32 0) }
     ensures range { is_none result ≡ any_too_large b bytes.now }
 {
-    if any_too_large(bytes, b) {
-        return None;
-    }
-    Some(read_vector(bytes, b))
+    read_vector(bytes, b).ok()
 }

@@ -18,9 +18,10 @@ pub fn put_bytes(area: &mut [u8], bytes: &[u8]) -> usize
     requires { length bytes.now ≤ length area.old }
     ensures { (result ≡ length bytes.now) × (area.new ≡ overwritten bytes.now area.old) }
 {
-    let count = bytes.len();
-    area[..count].copy_from_slice(bytes);
-    count
+    for (k, byte) in bytes.iter().enumerate() {
+        area[k] = *byte;
+    }
+    bytes.len()
 }
 
 // Writes the word to the area's start and returns how many bytes it has.

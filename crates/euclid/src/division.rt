@@ -21,16 +21,17 @@ fn plus_product(q: Prime, x: u32, m: u32, y: u32) -> u32
     field::reduce(q, x as u64 + m as u64 * y as u64)
 }
 
-// a - k u^n b, in place of a.
-fn cancel(q: Prime, a: &mut [u32; 32], k: u32, n: usize, b: Poly, lb: usize)
+// a - k u^n b, in place of a; returns how many entries it wrote.
+fn cancel(q: Prime, a: &mut [u32; 32], k: u32, n: usize, b: Poly, lb: usize) -> usize
     requires { (n + lb ≤ 32) × (k < modulus_of q) × Bounded (modulus_of q) 32 a.old × Bounded (modulus_of q) lb b.c × (length a.old ≡ 32) }
-    ensures { (a.new ≡ cancelled_of (modulus_of q) k n b.c a.old) × (length a.new ≡ 32) }
+    ensures { (result ≡ lb) × (a.new ≡ cancelled_of (modulus_of q) k n b.c a.old) × (length a.new ≡ 32) }
 {
     let m = field::modulus(q) - k;
     for j in 0..lb {
         let place = n + j;
         a[place] = plus_product(q, a[place], m, b.c[j]);
     }
+    lb
 }
 
 // Long division of an a with at most la coefficients by a b of length lb. Each turn takes away the coefficient of u^(top - 1).

@@ -1,5 +1,6 @@
 -- Paper 01, "Primes by code": 0 is 7, 1 is 97, 2 is 257, 3 is 65521.
-use Rattle.std.specs.Prelude.{ℕ, zero, suc, Result, Ok, Err, if◌then◌else◌, nat_le}
+use Rattle.std.specs.Prelude.{ℕ, zero, suc, List, ◌++◌, codes, Result, Ok, Err, if◌then◌else◌, nat_le}
+use Rattle.std.specs.Fmt.{decimal}
 use Rattle.field.specs.declared.Prime.{Prime}
 use Rattle.field.specs.declared.UnknownPrime.{UnknownPrime}
 use Rattle.field.specs.declared.Prime.TheVariants.{P7, P97, P257, P65521}
@@ -21,3 +22,7 @@ prime_of_code (suc (suc (suc n))) = P65521
 -- the prime that any number names as a code: one above 3 names none
 abbrev pub prime_named : ℕ → Result Prime UnknownPrime
 prime_named code = if nat_le code 3 then Ok (prime_of_code code) else Err (record { 0 = code })
+
+-- the words for a code that names no prime
+abbrev pub message_of : UnknownPrime → List ℕ
+message_of e = codes "no prime has code " ++ decimal e.0

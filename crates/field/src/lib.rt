@@ -1,8 +1,8 @@
 // The numbers modulo one of the four primes: any operands, reduced results.
 #![tactic(auto)]
 
-ghost use Rattle.std.specs.Prelude.{◌*◌, ◌%◌, ◌≡◌};
-ghost use Rattle.field.specs.Primes.{modulus_of, prime_named, prime_of_code};
+ghost use Rattle.std.specs.Prelude.{◌*◌, ◌%◌, ◌≡◌, Some};
+ghost use Rattle.field.specs.Primes.{modulus_of, prime_named, prime_of_code, message_of};
 
 use std::error::Error;
 use std::fmt;
@@ -47,6 +47,8 @@ impl TryFrom<u32> for Prime {
 }
 
 impl fmt::Display for UnknownPrime {
+    ghost output = { λ e. Some (message_of e) };
+
     fn fmt<W: fmt::Write>(&self, f: &mut fmt::Formatter<W>) -> fmt::Result {
         write!(f, "no prime has code {}", self.0)
     }

@@ -9,10 +9,10 @@ ghost use Rattle.job.specs.Form.{form_outcome_of};
 ghost use Rattle.marked_rows.specs.Marks.{mark_of};
 ghost use Rattle.marked_rows.specs.Table.{conditions_by};
 ghost use Rattle.lists.specs.Search.{any_below};
-ghost use Rattle.form_check.specs.Reports.{form_report_of};
+ghost use Rattle.form_check.specs.Reports.{form_report_of, recovery_form_report_of};
 ghost use Rattle.form_check.specs.Steps.{row_form_of, Scanned};
 
-use format::{Refusal, Report};
+use format::{Recovered, Refusal, Report};
 use header::{Header, read_header, rows_needed};
 use job::{check_header, check_table};
 use marked_rows::row_conditions;
@@ -26,15 +26,30 @@ pub struct FormReport {
     pub row: u32,
 }
 
+// The refusal and the row of a report.
+fn form_part(report: Report) -> FormReport
+    ensures { result ≡ record { refusal = report.refusal; row = report.row } }
+{
+    FormReport {
+        refusal: report.refusal,
+        row: report.row,
+    }
+}
+
 impl From<Result<(), Refusal>> for FormReport {
     ghost from_gives = { λ check report. report ≡ form_report_of check };
 
     fn from(check: Result<(), Refusal>) -> FormReport {
-        let report = Report::from(check);
-        FormReport {
-            refusal: report.refusal,
-            row: report.row,
-        }
+        form_part(Report::from(check))
+    }
+}
+
+// The same of a recovery.
+impl From<Result<Recovered, Refusal>> for FormReport {
+    ghost from_gives = { λ recovery report. report ≡ recovery_form_report_of recovery };
+
+    fn from(recovery: Result<Recovered, Refusal>) -> FormReport {
+        form_part(Report::from(recovery))
     }
 }
 

@@ -8,7 +8,11 @@ use native.Mathlib.Omega.{arith}
 use borrow.Author.Tests.{le-leb, eqb-true, not-false}
 use lib.Dec.{ltb, leb, eqb}
 use Rattle.lists.proofs.Order.{lt_or_ge}
-use Rattle.lists.proofs.Truth.{or-false}
+use Rattle.lists.proofs.Truth.{clash, or-false}
+use Rattle.std.specs.Prelude.{Result, Ok}
+use Rattle.format.specs.declared.Reason.TheVariants.{TooShort, AddedHeader}
+use Rattle.format.specs.declared.Refusal.{Refusal}
+use Rattle.format.specs.Outcomes.{refused}
 use Rattle.format.specs.Bounds.{numerator_bound_of, largest_bound}
 use Rattle.format.proofs.Sizes.{largest_above}
 use Rattle.cursor.proofs.Fields.{field_below}
@@ -61,3 +65,17 @@ bound_within_df s unbroken i = by (short_or_longer s) (lt_or_ge i 4) (lt_or_ge i
     by (inl short) (inl l) place = rw (bound_at s i l, short) (equal (ltb i (outputs_of s)))
     by (inr longer) (inl l) (inl exists) = rw (rules_kept s unbroken longer).2 (largest_above (bounds_of s) (bounds_of s).outputs i exists)
     by (inr longer) (inl l) (inr past) = rw (absent_zero s unbroken longer i l past) (omega arith)
+
+-- tests 1 and 11, a and b, and what later ones say: `rules_then` with both in their places
+abbrev pub two_tests : (a b : Bool) → Result (Unit {0}) Refusal → Result (Unit {0}) Refusal
+two_tests a b later = cond a (refused TooShort 0) (cond b (refused AddedHeader 0) later)
+
+pub two_refused : (a b : Bool) (later : Result (Unit {0}) Refusal) → (two_tests a b (Ok tt) ≡ Ok tt → ⊥) → two_tests a b (Ok tt) ≡ two_tests a b later
+two_refused true b later refuses = refl
+two_refused false true later refuses = refl
+two_refused false false later refuses = absurd (refuses refl)
+
+pub two_passed : (a b : Bool) (later : Result (Unit {0}) Refusal) → two_tests a b (Ok tt) ≡ Ok tt → later ≡ two_tests a b later
+two_passed true b later e = absurd (clash cc)
+two_passed false true later e = absurd (clash cc)
+two_passed false false later e = refl

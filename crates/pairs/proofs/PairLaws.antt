@@ -1,5 +1,5 @@
 -- Laws of the pairs that the proofs of the loop share.
-use mathlib.Core.Path.{◌≡◌, sym, ap, subst, ◌∙◌}
+use mathlib.Core.Path.{◌≡◌, sym, ap, ap₂, subst, ◌∙◌}
 use mathlib.Core.Bool.{Bool, true, false, cond}
 use mathlib.Core.List.{List}
 use Prim.Native.Nat.{ℕ, zero, suc, ◌+◌, ◌≤◌, ◌<◌}
@@ -8,12 +8,18 @@ use native.Mathlib.Omega.{arith}
 use lib.Dec.{eqb, leb}
 use lib.ListN.{get_or}
 use borrow.Author.Tests.{eq-eqb, ne_eqb, le-leb, lt-leb}
+use Rattle.poly.specs.declared.Poly.{Poly}
 use Rattle.poly.specs.Coefficients.{Bounded}
 use Rattle.poly.specs.Vectors.{one_poly, zero_poly}
 use Rattle.lists.proofs.Tabulated.{at_zeros}
 use Rattle.poly.proofs.Lists.{bounded_mono, bounded_zeros}
 use Rattle.pairs.specs.declared.Pair.{Pair}
 use Rattle.pairs.specs.Pairs.{Pairs, PairBounded, PairsBounded, advanced_of, combined_of, step_by, start_of, pairs_step, pairs_after, discrepancy_of, smaller_of}
+
+-- a pair by its two coefficient lists
+pub pair_is : (a b : Poly) (e : ℕ) {la lb : List ℕ} → a.c ≡ la → b.c ≡ lb
+    → ◌≡◌ {A = Pair} (record { a = a; b = b; e = e }) (record { a = record { c = la }; b = record { c = lb }; e = e })
+pair_is a b e ea eb = ap₂ (λ (x y : List ℕ). record { a = record { c = x }; b = record { c = y }; e = e }) ea eb
 
 pub pair_mono : {p n m : ℕ} {s : Pair} → PairBounded p n s → n ≤ m → PairBounded p m s
 pair_mono h l = record { left = bounded_mono h.left l; right = bounded_mono h.right l }

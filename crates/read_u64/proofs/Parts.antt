@@ -4,10 +4,8 @@ use mathlib.Core.Path.{◌≡◌, refl, sym, ap, ap₂, ◌∙◌}
 use Prim.Native.Nat.{ℕ, zero, suc, ◌+◌, ◌-◌, ◌*◌, ◌/◌, ◌%◌, ◌^◌, ◌<◌}
 use native.Mathlib.Nat.{add-zero, div-one, div-div-eq-div-mul}
 use native.Mathlib.Omega.{arith}
-use lib.ListN.{get_or, take}
-use lib.Seq.{get_or-take}
+use lib.ListN.{get_or}
 use lib.Pow.{pow-add}
-use Rattle.std.specs.Int.{w64, from_be_bytes}
 use Rattle.format.specs.Numbers.{number_from}
 use Rattle.read_u64.specs.Words.{joined_bytes, part_of}
 
@@ -16,12 +14,15 @@ pub joined_more : (s : List ℕ) (k m : ℕ) → joined_bytes s k (m + 1) ≡ jo
 unfolding joined_bytes
 joined_more s k m = let e : m + 1 ≡ suc m = omega arith in rw e refl
 
--- eight bytes at the head of a list, joined as the library does it
-pub eight_bytes : (s t : List ℕ) → t ≡ take 8 s → from_be_bytes w64 t ≡ joined_bytes s 0 8
+-- four bytes as the code puts them together, and two such words as one
+pub four_bytes : (s : List ℕ) (k : ℕ)
+    → joined_bytes s k 4 ≡ get_or s k 0 * 16777216 + get_or s (k + 1) 0 * 65536 + get_or s (k + 2) 0 * 256 + get_or s (k + 3) 0
 unfolding joined_bytes
-eight_bytes s t e =
-    let at : (k : ℕ) → k < 8 → get_or t k 0 ≡ get_or s k 0 = λ k l. ap (λ (x : List ℕ). get_or x k 0) e ∙ get_or-take 8 s k 0 l in
-    omega (arith, at 0 (omega arith), at 1 (omega arith), at 2 (omega arith), at 3 (omega arith), at 4 (omega arith), at 5 (omega arith), at 6 (omega arith), at 7 (omega arith))
+four_bytes s k = let e : k + 0 ≡ k = omega arith in rw e (omega arith)
+
+pub eight_bytes : (s : List ℕ) → joined_bytes s 0 8 ≡ joined_bytes s 0 4 * 4294967296 + joined_bytes s 4 4
+unfolding joined_bytes
+eight_bytes s = omega arith
 
 module _ (s : List ℕ) (bytes : (k : ℕ) → get_or s k 0 < 256) (k : ℕ) where
   -- a word of m + i bytes without its lowest i is that of the first m

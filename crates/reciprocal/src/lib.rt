@@ -26,13 +26,16 @@ fn computed_reciprocal(q: Prime, a: u32) -> u32
 }
 
 // The reciprocal of a residue that is not 0.
+// A call for each prime: each is compiled with its prime as a constant, also where the prime's code comes from a caller.
 fn residue_reciprocal(q: Prime, a: u32) -> u32
     requires { (0 < a) × (a < modulus_of q) }
     ensures { Some result ≡ reciprocal_of (modulus_of q) a }
 {
     match q {
         Prime::P257 => table257::reciprocal_of(a),
-        _ => computed_reciprocal(q, a),
+        Prime::P7 => computed_reciprocal(Prime::P7, a),
+        Prime::P97 => computed_reciprocal(Prime::P97, a),
+        Prime::P65521 => computed_reciprocal(Prime::P65521, a),
     }
 }
 

@@ -88,7 +88,7 @@ fn first_repeated_by_pairs(points: &[u32; 32], rows: usize) -> Option<u32>
 {
     (0..rows)
         .find(|r| stands_earlier(points, *r))
-        .map(|r| r as u32)
+        .map(|later| later as u32)
 }
 
 // The first row whose point stands in an earlier row. That none does is seen more quickly where points rise; and where there are many, if the

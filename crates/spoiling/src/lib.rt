@@ -9,11 +9,18 @@ ghost use Rattle.spoiling.specs.Spoiling.{untaken_from, chosen_row, amount_of, a
 
 use field::Prime;
 
+// The low 32 bits of the product.
+fn wrapping_product(a: u32, b: u32) -> u32
+    ensures { result ≡ a * b % 2 ^ 32 }
+{
+    a.wrapping_mul(b)
+}
+
 // One draw.
 fn next_word(last: u32) -> u32
     ensures { result ≡ next_word last }
 {
-    last.wrapping_mul(1664525).wrapping_add(1013904223)
+    wrapping_product(1664525, last).wrapping_add(1013904223)
 }
 
 fn top_bits(word: u32) -> u32

@@ -3,10 +3,15 @@ use Rattle.std.proofs.Common.{◌≡◌, ℕ, zero, suc, ◌+◌, ◌-◌, ◌�
 use Rattle.std.specs.Prelude.{min}
 use mathlib.Core.List.{append_assoc, append-nil}
 use Rattle.std.proofs.Math.ListN.{length-append}
-use Rattle.std.proofs.lemmas.List.{take_min, length-take}
+use Rattle.std.proofs.lemmas.List.{take_min, length-take, drop_all}
 use Rattle.std.proofs.lemmas.Slice.{take-put_mid}
 use borrow.Rule.Slice.PartMut.{put_mid}
+use Rattle.lists.specs.Overwriting.{overwritten}
 use Rattle.text.specs.Drafts.{text_room, extended}
+
+-- bytes put in place of as many others
+pub put_all : (ys old : List ℕ) → length old ≤ length ys → overwritten ys old ≡ ys
+put_all ys old few = ap (λ l. ys ++ l) (drop_all (length ys) old few) ∙ append-nil ys
 
 -- ys, as much of `more` as there is room for, is written behind the first count bytes
 pub put_fits : (bytes more ys : List ℕ) (count n k : ℕ) → length bytes ≡ text_room → count ≤ text_room → n ≡ min (length more) (text_room - count) → ys ≡ take n more

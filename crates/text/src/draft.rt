@@ -42,8 +42,7 @@ impl Draft {
     {
         let fits = more.len().min(ROOM - self.count);
         let end = self.count + fits;
-        self.bytes[self.count..end].copy_from_slice(&more[..fits]);
-        self.count = end;
+        self.count += answer::put_bytes(&mut self.bytes[self.count..end], &more[..fits]);
     }
 
     pub fn put_byte(&mut self, byte: u8)

@@ -64,9 +64,10 @@ pub fn put_rows(area: &mut [u8], start: usize, b: Bounds, v: &Vector, by: &[u32;
 {
     let width = 1 + b.outputs;
     let count = b.rows * width;
+    let mut written = 0;
     for k in 0..count {
         let number = number_at(b.prime, v, by, k / width, k % width);
-        answer::put_number(area, start + 2 * k, number);
+        written += answer::put_number(area, start + written, number);
     }
-    2 * count
+    written
 }

@@ -1,5 +1,5 @@
 use lib.ListN.{get_or}
-use mathlib.Core.Path.{◌≡◌, sym, ap₂, ◌∙◌}
+use mathlib.Core.Path.{◌≡◌, refl, sym, ap₂, ◌∙◌}
 use Prim.Native.Nat.{ℕ, ◌+◌, ◌-◌, ◌*◌, ◌%◌}
 use native.Mathlib.Omega.{arith}
 use Rattle.lists.proofs.Filling.{filled_from, filled_more, filled_all}
@@ -27,4 +27,4 @@ pub returns : goal.returns
 unfolding cancelled_of
 returns c =
     let pre = c.requires in
-    (filled_all c.loop-j.invariant (λ i l. cancelled_above _ _ _ _ _ pre.3 i (pre.2.residues i) (omega arith)), c.loop-j.invariant.size)
+    (refl, filled_all c.loop-j.invariant (λ i l. cancelled_above _ _ _ _ _ pre.3 i (pre.2.residues i) (omega arith)), c.loop-j.invariant.size)

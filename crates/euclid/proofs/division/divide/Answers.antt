@@ -26,7 +26,7 @@ loop-top-preserved c =
     let size : length c.args.b.c ≡ 32 = search rules in
     let divisor = divisor_array c.args.q size c.requires.2 c.requires.3 c.requires.4 in
     let inverse-is = c.nonzero_reciprocal-inverse.ensures ∙ leading_is divisor in
-    (progress_step divisor inverse-is c.args.a.c c.args.la c.loop-top.invariant.0 (omega arith) c.product-k.ensures c.cancel.ensures.0, c.cancel.ensures.1)
+    (progress_step divisor inverse-is c.args.a.c c.args.la c.loop-top.invariant.0 (omega arith) c.product-k.ensures c.cancel.ensures.1, c.cancel.ensures.2)
 
 pub returns : goal.returns
 returns c =

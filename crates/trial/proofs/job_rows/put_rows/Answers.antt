@@ -14,7 +14,7 @@ use Rattle.trial.proofs.job_rows.put_rows.Goals as goal
 
 pub loop-k-init : goal.loop-k-init
 unfolding coefficient_bytes
-loop-k-init c = (omega arith, refl, sym (splice_none c.args.start c.args.area.now))
+loop-k-init c = (omega arith, refl, omega arith, sym (splice_none c.args.start c.args.area.now))
 
 pub number_at-number-requires : goal.number_at-number-requires
 number_at-number-requires c =
@@ -26,20 +26,21 @@ number_at-number-requires c =
 
 pub loop-k-preserved : goal.loop-k-preserved
 loop-k-preserved c =
-    let r = c.put_number in
+    let r = c.put_number-written in
     let g = c.args in
     let k = c.loop-k.k in
     let width = 1 + g.b.outputs in
     let number = c.number_at-number in
-    let room : g.start + 2 * k ≤ length g.area.now = omega arith in (
+    let room : g.start + c.loop-k.written ≤ length g.area.now = omega arith in (
       omega arith,
       r.auto.area ∙ c.loop-k.invariant.1,
+      omega (arith, r.ensures.0),
       next_number (λ j. trial_number (prime_of g.b) (coefficients_at g.v.now.f) g.v.now.g.c (λ i. get_or g.by.now i 0) (j / width) (j % width))
-          (g.b.rows * width) g.start k (2 * k) number.result g.area.now c.loop-k.area r.new.area (omega arith) number.ensures refl room c.loop-k.invariant.2 r.ensures.1,
+          (g.b.rows * width) g.start k c.loop-k.written number.result g.area.now c.loop-k.area r.new.area (omega arith) number.ensures c.loop-k.invariant.2 room c.loop-k.invariant.3 r.ensures.1,
     )
 
 pub returns : goal.returns
 unfolding trial_numbers
 returns c =
     let all : c.loop-k.k ≡ c.args.b.rows * (1 + c.args.b.outputs) = omega arith in
-    (refl, c.loop-k.invariant.2 ∙ ap (λ k. spliced c.args.start (coefficient_bytes (trial_numbers (prime_of c.args.b) (coefficients_at c.args.v.now.f) c.args.v.now.g.c (λ i. get_or c.args.by.now i 0) c.args.b.rows c.args.b.outputs) k) c.args.area.now) all)
+    (omega arith, c.loop-k.invariant.3 ∙ ap (λ k. spliced c.args.start (coefficient_bytes (trial_numbers (prime_of c.args.b) (coefficients_at c.args.v.now.f) c.args.v.now.g.c (λ i. get_or c.args.by.now i 0) c.args.b.rows c.args.b.outputs) k) c.args.area.now) all)

@@ -8,7 +8,7 @@ use Rattle.answer.specs.Bytes.{numerator_start}
 use Rattle.answer.specs.Coefficients.{coefficient_length_of}
 use Rattle.answer.proofs.Places.{start_first, start-next, ends_within}
 use Rattle.answer.proofs.Numerators.{filled_none, filled_more}
-use Rattle.answer.proofs.coefficients.read_vector.Goals as goal
+use Rattle.answer.proofs.coefficients.vector.Goals as goal
 
 -- where a numerator's coefficients end
 ends : (b : Bounds) (i from : ℕ) {bound : ℕ} → i < b.outputs → from + 4 ≡ numerator_start b i → bound ≡ numerator_bound_of b i

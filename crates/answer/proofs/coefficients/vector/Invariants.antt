@@ -3,7 +3,7 @@ use Prim.Native.Nat.{◌+◌}
 use mathlib.Core.Path.{◌≡◌}
 use Rattle.answer.specs.Bytes.{numerator_start}
 use Rattle.answer.proofs.Numerators.{Filled}
-use Rattle.answer.proofs.coefficients.read_vector.Given as goal
+use Rattle.answer.proofs.coefficients.vector.Given as goal
 
 abbrev pub invariant-loop-i : goal.invariant-loop-i
 invariant-loop-i l =
